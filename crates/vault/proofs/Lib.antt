@@ -1,0 +1,4 @@
+pub mod Checks
+pub mod Requests
+pub mod Words
+pub mod Chips

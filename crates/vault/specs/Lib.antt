@@ -1,0 +1,5 @@
+pub mod Checks
+pub mod Serials
+pub mod Meaning
+pub mod Kinds
+pub mod Views
