@@ -1,6 +1,6 @@
 //! Searches in a slice, and lists that are packed at the front of one in rising order.
 ghost use Rattle.packed.specs.First.{first};
-ghost use Rattle.std.specs.Options.{Cases};
+ghost use Rattle.std.specs.Options.{Cases, isSome};
 ghost use Rattle.packed.specs.Rising.{has, lookup, insert, remove};
 ghost use lib.Dec.{eqb, leb};
 ghost use lib.ListN.{length, take};
@@ -86,7 +86,8 @@ pub fn contains<T: Keyed>(xs: &[T], number: u32) -> bool
 
 /// The element that has this number.
 pub fn get<T: Keyed + Copy>(xs: &[T], number: u32) -> Option<T>
-    ensures { λ r. ⌜ r ≡ lookup (T·Keyed .key) number (now (xs .entry)) ⌝ }
+    ensures found { λ r. ⌜ r ≡ lookup (T·Keyed .key) number (now (xs .entry)) ⌝ }
+    ensures there { λ r. ⌜ isSome r ≡ has (T·Keyed .key) number (now (xs .entry)) ⌝ }
 {
     match first_of(xs, &HasNumber { number }) {
         Some(at) => Some(xs[at]),
@@ -111,6 +112,7 @@ pub fn insert_into<T: Keyed + Copy>(xs: &mut [T], len: usize, new: T)
 pub fn take_from<T: Keyed + Copy>(xs: &mut [T], len: usize, number: u32) -> Option<T>
     requires { ⌜ len ≤ length (now xs) ⌝ }
     ensures taken { λ r. ⌜ r ≡ lookup (T·Keyed .key) number (take len (now (xs .entry))) ⌝ }
+    ensures there { λ r. ⌜ isSome r ≡ has (T·Keyed .key) number (take len (now (xs .entry))) ⌝ }
     ensures left { λ _. ⌜ take (cond (has (T·Keyed .key) number (take len (now (xs .entry)))) (len - 1) len) (now (xs .exit)) ≡ remove (T·Keyed .key) number (take len (now (xs .entry))) ⌝ }
 {
     match first_of(&xs[0..len], &HasNumber { number }) {

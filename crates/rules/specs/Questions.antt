@@ -12,7 +12,9 @@ use Rattle.rules.specs.declared.cause.Cause.the-variants.{NoSuchUnit, BlockOut
 use Rattle.rules.specs.declared.row.Kind.{Kind}
 use Rattle.rules.specs.declared.row.Kind.the-variants.{Free, Global, UnitRow, RangeRow}
 use Rattle.rules.specs.declared.row.Sought.the-variants.{UnitRowOf, RangeOver}
+use Rattle.rules.specs.declared.row.Row.{Row}
 use Rattle.rules.specs.declared.unit.Control.{Control}
+use Rattle.rules.specs.declared.unit.LogicalUnit.{LogicalUnit}
 use Rattle.rules.specs.Drive.{Drive, unusedKeys}
 use Rattle.rules.specs.Rows.{row, lowestRow}
 use Rattle.rules.specs.Units.{exists, unit}
@@ -23,8 +25,8 @@ unused-answer d = answer (firstOf ((d .closed , Closed) ∷ [])) (unusedKeys d)
 
 -- ---- Controls: the row that controls a block, and the serial of the block's key
 -- the range row of its unit that covers it, else the unit row, else row 0
-abbrev pub controllingRow : Drive → ℕ → ℕ → ℕ
-controllingRow d n block = valueOr (lowestRow (RangeOver n block) (d .rows)) (valueOr (lowestRow (UnitRowOf n) (d .rows)) 0)
+abbrev pub controllingRow : List Row → ℕ → ℕ → ℕ
+controllingRow rows n block = valueOr (lowestRow (RangeOver n block) rows) (valueOr (lowestRow (UnitRowOf n) rows) 0)
 
 -- that range row's key, else the unit's
 abbrev pub keyOr : Kind → ℕ → ℕ
@@ -33,10 +35,10 @@ keyOr Global serial = serial
 keyOr (UnitRow u) serial = serial
 keyOr (RangeRow u start length own) serial = own
 
-abbrev pub control : Drive → ℕ → ℕ → Control
-control d n block = record {
-  row = controllingRow d n block;
-  serial = keyOr (row (controllingRow d n block) (d .rows) .kind) (unit n (d .units) .serial);
+abbrev pub control-of : List Row → LogicalUnit → ℕ → Control
+control-of rows u block = record {
+  row = controllingRow rows (u .number) block;
+  serial = keyOr (row (controllingRow rows (u .number) block) rows .kind) (u .serial);
 }
 
 abbrev pub controls-refusal : Drive → ℕ → ℕ → Option Cause
@@ -47,4 +49,4 @@ controls-refusal d n block = firstOf (
   ∷ [])
 
 abbrev pub controls-answer : Drive → ℕ → ℕ → Result Control Cause
-controls-answer d n block = answer (controls-refusal d n block) (control d n block)
+controls-answer d n block = answer (controls-refusal d n block) (control-of (d .rows) (unit n (d .units)) block)

@@ -24,9 +24,13 @@ freeRow = record { kind = Free; standing = Shared; flags = blank }
 abbrev pub globalRow : Row
 globalRow = record { kind = Global; standing = Shared; flags = blank }
 
+-- what stands for a row above 16; no accepted call meets it
+abbrev pub noRow : Row
+noRow = record { kind = Free; standing = Shared; flags = record { «read_lock_enabled» = false; «write_lock_enabled» = false; «read_locked» = false; «write_locked» = false; «lock_on_reset» = false } }
+
 -- the row with this number
 abbrev pub row : ℕ → List Row → Row
-row r rows = getD rows r freeRow
+row r rows = getD rows r noRow
 
 -- a row is locked for reading where that lock is enabled and set; for writing likewise
 abbrev pub readLocked : Flags → Bool

@@ -22,9 +22,11 @@ returns-in-Some g c =
     let n : len - 0 ≡ len = omega arith in
     let f : first (λ x. eqb (key x) (c .args .number)) (take len xs) ≡ Some at = sym (rw n at (c .in-Some .ensures tt .place)) in
     let l : at < len = omega (arith, found-within (λ x. eqb (key x) (c .args .number)) (take len xs) at f, length-take-le len xs (c .pre)) in
+    let h = has-found key (c .args .number) (take len xs) at f in
     record {
+      there = sym h;
       taken = ap Some (c .index-xs-at .is ∙ sym (getD-take len xs at (c .index-xs-at .result) l)) ∙ sym (lookup-found key (c .args .number) (take len xs) at f (c .index-xs-at .result));
-      left = rw (has-found key (c .args .number) (take len xs) at f) (rotated-out xs at len l (c .pre) (c .rotate-left .last .self) (c .rotate-left .ensures .after)) ∙ sym (remove-found key (c .args .number) (take len xs) at f);
+      left = rw h (rotated-out xs at len l (c .pre) (c .rotate-left .last .self) (c .rotate-left .ensures .after)) ∙ sym (remove-found key (c .args .number) (take len xs) at f);
     }
 
 pub returns-in-None : need.returns-in-None
@@ -34,7 +36,9 @@ returns-in-None g c =
     let key = g .T·Keyed .key in
     let n : len - 0 ≡ len = omega arith in
     let f : first (λ x. eqb (key x) (c .args .number)) (take len xs) ≡ None = sym (rw n at (c .in-None .ensures tt .place)) in
+    let h = has-absent key (c .args .number) (take len xs) f in
     record {
+      there = sym h;
       taken = sym (lookup-absent key (c .args .number) (take len xs) f);
-      left = rw (has-absent key (c .args .number) (take len xs) f) (sym (remove-absent key (c .args .number) (take len xs) f));
+      left = rw h (sym (remove-absent key (c .args .number) (take len xs) f));
     }
