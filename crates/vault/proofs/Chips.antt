@@ -45,8 +45,8 @@ pub fit-sound : (words : List ℕ) → fit words ≡ true → sound (record { ca
 fit-sound words f = sound-from _ (rises-collect words (grind (arith, tells))) (length-collect words)
 
 -- all registers in use, or none
-pub in-use : (words : List ℕ) → fit words ≡ true → chip-meaning (length words) words ≡ record { capacity = length words; held = collect words }
-in-use words f = ap (with-held (chip-meaning (length words) words)) (ap collect (take-all (length words) words (omega arith)))
+pub all-in-use : (words : List ℕ) → fit words ≡ true → chip-meaning (length words) words ≡ record { capacity = length words; held = collect words }
+all-in-use words f = ap (with-held (chip-meaning (length words) words)) (ap collect (take-all (length words) words (omega arith)))
 
 pub nothing-sound : sound nothing ≡ true
 unfolding rises

@@ -39,6 +39,10 @@ chip-check words = answer (firstOf ((not (fit words) , Unfit) ∷ [])) tt
 abbrev pub chip-meaning : ℕ → List ℕ → Meaning
 chip-meaning used words = record { capacity = used; held = collect (take used words) }
 
+-- how many registers of a new chip are in use
+abbrev pub in-use : List ℕ → ℕ
+in-use words = cond (fit words) (length words) 0
+
 abbrev pub chip-new : List ℕ → Meaning
 chip-new words = cond (fit words) (record { capacity = length words; held = collect words }) nothing
 

@@ -1,4 +1,4 @@
-ghost use Rattle.vault.specs.Kinds.{chip-check, chip-meaning, chip-new, fit, lowest, chip-put, chip-swap, chip-drop};
+ghost use Rattle.vault.specs.Kinds.{chip-check, chip-meaning, chip-new, in-use, chip-put, chip-swap, chip-drop};
 ghost use Rattle.vault.specs.Meaning.{sound, put-answer, put-after, swap-answer, swap-after, drop-answer, drop-after};
 ghost use Rattle.vault.specs.Serials.{collect, distinct};
 ghost use Rattle.packed.specs.First.{first};
@@ -41,7 +41,7 @@ impl<'a> KeyChip<'a> {
     /// The vault in these registers, or one with no place where `check` refuses them.
     pub fn new(registers: &'a mut [u32]) -> KeyChip<'a>
         ensures value { λ r. ⌜ chip-meaning (r .used) (now (r .registers)) ≡ chip-new (now (registers .entry)) ⌝ }
-        ensures used { λ r. ⌜ r .used ≡ cond (fit (now (registers .entry))) (length (now (registers .entry))) 0 ⌝ }
+        ensures used { λ r. ⌜ r .used ≡ in-use (now (registers .entry)) ⌝ }
         ensures words { λ r. ⌜ now (r .registers) ≡ now (registers .entry) ⌝ }
         ensures lent { λ r. ⌜ name (r .registers) ≡ name (registers .entry) ⌝ }
     {
@@ -166,4 +166,13 @@ pub impl<'a> Vault for KeyChip<'a> as KeyChipVault {
         }
         Ok(())
     }
+}
+
+/// Puts a key into registers that are lent for this one request. Whoever lent them knows every word afterwards.
+pub fn put_into(registers: &mut [u32], serial: u32) -> Result<(), VaultRefusal>
+    ensures answer { λ r. ⌜ r ≡ put-answer (chip-new (now (registers .entry))) serial ⌝ }
+    ensures words { λ _. ⌜ now (registers .exit) ≡ chip-put (in-use (now (registers .entry))) (now (registers .entry)) serial ⌝ }
+{
+    let mut chip = KeyChip::new(registers);
+    chip.put(serial)
 }
