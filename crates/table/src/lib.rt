@@ -2,3 +2,6 @@
 pub mod calls;
 pub mod refusals;
 pub mod state;
+
+#[cfg(test)]
+mod tests;
