@@ -2,7 +2,7 @@ ghost use mathlib.Core.Path.{_≡_};
 ghost use Rattle.rules.specs.Causes.{number, status};
 
 /// Why a call is refused.
-#[derive(Clone, Copy, PartialEq, Eq, Debug)]
+#[derive(Clone, Copy, Debug)]
 pub enum Cause {
     CallerNotAllowed,
     /// The row's number is above 16.
@@ -53,14 +53,14 @@ pub enum Cause {
 }
 
 /// How a call came in. A question comes over the host interface, as a command does.
-#[derive(Clone, Copy, PartialEq, Eq, Debug)]
+#[derive(Clone, Copy)]
 pub enum Asked {
     Method,
     Command,
 }
 
 /// The status that the host is told.
-#[derive(Clone, Copy, PartialEq, Eq, Debug)]
+#[derive(Clone, Copy)]
 pub enum Status {
     NotAuthorized,
     InvalidParameter,

@@ -5,7 +5,7 @@ ghost use Rattle.rules.specs.Units.{valid};
 ghost use Rattle.rules.specs.declared.numbering.Bounds.{Bounds};
 
 /// What a numbering fixes: the mark of a row without a unit, the first and the last unit number, and its code on the sheet.
-#[derive(Clone, Copy, PartialEq, Eq, Debug)]
+#[derive(Clone, Copy)]
 pub struct Bounds {
     pub mark: u32,
     pub first: u32,

@@ -7,15 +7,18 @@ ghost use denote.Ref.{name};
 ghost use Rattle.rules.specs.Drive.{Drive};
 ghost use Rattle.rules.specs.Commands.{create-answer, create-after, delete-answer, delete-after};
 ghost use Rattle.rules.specs.Questions.{unused-answer, controls-answer};
+ghost use Rattle.vault.specs.Serials.{holds};
 ghost use Rattle.layout.specs.View.{drive};
 use crate::refusals::*;
 use crate::state::*;
 use layout::content::*;
 use layout::edits::*;
 use layout::lookups::*;
+use layout::rows::*;
 use layout::units::*;
 use rules::cause::*;
 use rules::numbering::*;
+use rules::row::*;
 use rules::unit::*;
 use vault::Vault;
 
@@ -47,6 +50,18 @@ pub trait Calls {
     /// The row that controls a block, and the serial of the block's key.
     fn controls(&self, number: u32, block: u64) -> Result<Control, Cause>
         ensures { λ r. ⌜ r ≡ controls-answer (model (now (self .entry))) number block ⌝ };
+
+    /// Whether the vault holds the key with this serial.
+    fn holds(&self, serial: u32) -> bool
+        ensures { λ r. ⌜ r ≡ holds serial (model (now (self .entry)) .vault .held) ⌝ };
+
+    /// The units in rising order, to look at.
+    fn units(&self) -> &[LogicalUnit]
+        ensures { λ r. ⌜ now r ≡ model (now (self .entry)) .units ⌝ };
+
+    /// The rows from row 0, to look at.
+    fn rows(&self) -> &[Row]
+        ensures { λ r. ⌜ now r ≡ model (now (self .entry)) .rows ⌝ };
 }
 
 pub impl<'v, V: Vault, N: Numbering> Calls for Table<'v, V, N> as TableCalls {
@@ -96,5 +111,17 @@ pub impl<'v, V: Vault, N: Numbering> Calls for Table<'v, V, N> as TableCalls {
             return Err(Cause::BlockOutOfRange);
         }
         Ok(self.layout.control(unit, block))
+    }
+
+    fn holds(&self, serial: u32) -> bool {
+        self.vault.holds(serial)
+    }
+
+    fn units(&self) -> &[LogicalUnit] {
+        self.layout.units.as_slice()
+    }
+
+    fn rows(&self) -> &[Row] {
+        self.layout.rows.as_slice()
     }
 }

@@ -60,18 +60,4 @@ impl<'v, V: Vault, N: Numbering> Table<'v, V, N> {
             closed,
         }
     }
-
-    /// What the table stores, to look at.
-    pub fn layout(&self) -> &Layout
-        ensures { λ r. ⌜ now r ≡ now (self .entry) .layout ⌝ }
-    {
-        &self.layout
-    }
-
-    /// The vault, to look at.
-    pub fn vault(&self) -> &V
-        ensures { λ r. ⌜ now r ≡ now (self .entry) .vault .now ⌝ }
-    {
-        self.vault
-    }
 }

@@ -34,10 +34,6 @@ fn controls<C: Calls>(table: &C, unit: u32, block: u64) -> (u32, u32) {
     }
 }
 
-fn held<V: Vault, N: Numbering>(table: &Table<'_, V, N>, serial: u32) -> bool {
-    table.vault().holds(serial)
-}
-
 #[test]
 fn create_refuses_in_order() -> Result<(), Fail> {
     let mut file = KeyFile::new(2);
@@ -57,7 +53,7 @@ fn deletions<V: Vault>(vault: &mut V) -> Result<(), Fail> {
     let mut table = Table::fresh(vault, &Nvme {});
     check_eq((number(table.create(7, 10)), number(table.create(3, 10))), (0, 0))?;
     check_eq((number(table.delete(4)), number(table.delete(7)), number(table.delete(7))), (5, 0, 5))?;
-    check_eq((held(&table, 1), held(&table, 2)), (false, true))?;
+    check_eq((table.holds(1), table.holds(2)), (false, true))?;
     check_eq((table.unused().ok(), number(table.create(7, 10)), controls(&table, 7, 9)), (Some(1), 0, (0, 3)))
 }
 
@@ -88,7 +84,7 @@ fn sixteen_units_and_the_largest_serial() -> Result<(), Fail> {
     table.layout.next = LARGEST_SERIAL;
     check_eq((number(table.create(16, 1)), controls(&table, 16, 0)), (0, (0, LARGEST_SERIAL)))?;
     check_eq((number(table.create(17, 1)), number(table.delete(1)), number(table.create(17, 1))), (19, 0, 13))?;
-    check_eq((held(&table, LARGEST_SERIAL), table.unused().ok()), (true, Some(49)))
+    check_eq((table.holds(LARGEST_SERIAL), table.unused().ok()), (true, Some(49)))
 }
 
 #[test]
@@ -97,6 +93,6 @@ fn a_closed_table_answers_29_first() -> Result<(), Fail> {
     check_eq((number(fresh_check(&used)), used.put(9).is_ok(), number(fresh_check(&used))), (0, true, 29))?;
     let mut table = Table::fresh(&mut used, &Nvme {});
     check_eq((number(table.create(0, 0)), number(table.delete(1)), number(table.unused()), number(table.controls(1, 0))), (29, 29, 29, 29))?;
-    check_eq(held(&table, 9), true)?;
+    check_eq(table.holds(9), true)?;
     check_eq((number(fresh_check(&KeyFile::new(0))), number(fresh_check(&KeyFile::new(65)))), (29, 29))
 }
