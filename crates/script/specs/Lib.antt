@@ -1,0 +1,4 @@
+pub mod Number
+pub mod Spelling
+pub mod Line
+pub mod Says
