@@ -38,7 +38,11 @@ impl Layout {
         ensures rest { λ _. ⌜ (now (self .exit) .rows ≡ now (self .entry) .rows) × (now (self .exit) .policy ≡ now (self .entry) .policy) ⌝ }
     {
         let serial = self.next;
-        self.units.insert(LogicalUnit { number, blocks, serial });
+        self.units.insert(LogicalUnit {
+            number,
+            blocks,
+            serial,
+        });
         self.next = serial + 1;
     }
 

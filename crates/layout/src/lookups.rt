@@ -20,7 +20,10 @@ impl Layout {
         ensures row { λ r. ⌜ r ≡ controllingRow (now (self .entry) .rows .list) number block ⌝ }
         ensures within { λ r. ⌜ r < 17 ⌝ }
     {
-        if let Some(at) = self.rows.find(Sought::RangeOver { unit: number, block }) {
+        if let Some(at) = self.rows.find(Sought::RangeOver {
+            unit: number,
+            block,
+        }) {
             return at;
         }
         match self.rows.find(Sought::UnitRowOf { unit: number }) {
@@ -35,9 +38,17 @@ impl Layout {
     {
         let row = self.controlling_row(unit.number, block);
         let serial = match self.rows.get(row).kind {
-            Kind::RangeRow { unit: _, start: _, length: _, serial } => serial,
+            Kind::RangeRow {
+                unit: _,
+                start: _,
+                length: _,
+                serial,
+            } => serial,
             _ => unit.serial,
         };
-        Control { row: row as u32, serial }
+        Control {
+            row: row as u32,
+            serial,
+        }
     }
 }

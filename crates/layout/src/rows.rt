@@ -39,9 +39,17 @@ impl Rows {
     pub fn free() -> Rows
         ensures { λ r. ⌜ r .list ≡ globalRow ∷ replicate 16 freeRow ⌝ }
     {
-        let free = Row { kind: Kind::Free, standing: Standing::Shared, flags: blank_flags() };
+        let free = Row {
+            kind: Kind::Free,
+            standing: Standing::Shared,
+            flags: blank_flags(),
+        };
         let mut list = [free; 17];
-        list[0] = Row { kind: Kind::Global, standing: Standing::Shared, flags: blank_flags() };
+        list[0] = Row {
+            kind: Kind::Global,
+            standing: Standing::Shared,
+            flags: blank_flags(),
+        };
         Rows { list }
     }
 

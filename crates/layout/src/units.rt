@@ -25,8 +25,15 @@ impl Units {
     pub fn none() -> Units
         ensures { λ r. ⌜ take (r .count) (r .list) ≡ [] ⌝ }
     {
-        let no_unit = LogicalUnit { number: 0, blocks: 0, serial: 0 };
-        Units { list: [no_unit; 16], count: 0 }
+        let no_unit = LogicalUnit {
+            number: 0,
+            blocks: 0,
+            serial: 0,
+        };
+        Units {
+            list: [no_unit; 16],
+            count: 0,
+        }
     }
 
     pub fn count(&self) -> usize

@@ -61,9 +61,9 @@ module _ {A : Type 0} (key : A → ℕ) where
   has-lookup k [] = refl
   has-lookup k (x ∷ xs) = go (eqb (key x) k) (has-lookup k xs)
     where
-    go : (b : Bool) → isSome (lookup key k xs) ≡ has key k xs → isSome (cond b (Some x) (lookup key k xs)) ≡ (b || has key k xs)
-    go true h = refl
-    go false h = h
+      go : (b : Bool) → isSome (lookup key k xs) ≡ has key k xs → isSome (cond b (Some x) (lookup key k xs)) ≡ (b || has key k xs)
+      go true h = refl
+      go false h = h
 
   -- where a search for the number k, or for what is not below a new element, came out
   module _ (k : ℕ) where

@@ -30,7 +30,7 @@ module _ {A : Type 0} (xs : List A) (at len : ℕ) where
 
     pub rotated-in : (ys : List A)
         → ys ≡ drop (length (take ((len + 1) - at) (drop at (set xs len new))) - 1) (take ((len + 1) - at) (drop at (set xs len new)))
-            ++ take (length (take ((len + 1) - at) (drop at (set xs len new))) - 1) (take ((len + 1) - at) (drop at (set xs len new)))
+        ++ take (length (take ((len + 1) - at) (drop at (set xs len new))) - 1) (take ((len + 1) - at) (drop at (set xs len new)))
         → take (len + 1) (putMid at ((len + 1) - at) (set xs len new) ys) ≡ inserted front at new
     rotated-in ys e =
         let n : length (drop at front ++ new ∷ []) - 1 ≡ len - at = ap (λ k. k - 1) (length-append (drop at front) (new ∷ [])) ∙ omega (arith, rest) in
@@ -55,7 +55,7 @@ module _ {A : Type 0} (xs : List A) (at len : ℕ) where
         → take (len - 1) (putMid at (len - at) xs ys) ≡ removed front′ at
     rotated-out ys e =
         let f : ys ≡ drop (suc at) front′ ++ take 1 (drop at front′) =
-            e ∙ rw part′ (ap (λ z. z ++ take 1 (drop at front′)) (drop-drop 1 at front′ ∙ ap (λ k. drop k front′) (add-one at))) in
+        e ∙ rw part′ (ap (λ z. z ++ take 1 (drop at front′)) (drop-drop 1 at front′ ∙ ap (λ k. drop k front′) (add-one at))) in
         let m : length (drop (suc at) front′) ≡ (len - 1) - at = length-drop (suc at) front′ ∙ omega (arith, size′) in
         let p : length (take at xs) ≡ at = length-take-le at xs (omega arith) in
         let n : len - 1 ≡ length (take at xs) + ((len - 1) - at) = omega (arith, p) in

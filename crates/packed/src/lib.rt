@@ -100,7 +100,12 @@ pub fn insert_into<T: Keyed + Copy>(xs: &mut [T], len: usize, new: T)
     requires { ⌜ len < length (now xs) ⌝ }
     ensures { λ _. ⌜ take (len + 1) (now (xs .exit)) ≡ insert (T·Keyed .key) new (take len (now (xs .entry))) ⌝ }
 {
-    let at = match first_of(&xs[0..len], &NotBelow { number: new.key_of() }) {
+    let at = match first_of(
+        &xs[0..len],
+        &NotBelow {
+            number: new.key_of(),
+        },
+    ) {
         Some(at) => at,
         None => len,
     };

@@ -54,7 +54,10 @@ pub impl fmt::Display for Answer as AnswerDisplay {
             Answer::Unused(count) => write!(f, "{count}"),
             Answer::Controls(Control { row, serial }) => write!(f, "row {row}, key {serial}"),
             Answer::Refused(cause) => {
-                let refusal = Refusal { cause, asked: Asked::Command };
+                let refusal = Refusal {
+                    cause,
+                    asked: Asked::Command,
+                };
                 write!(f, "{refusal}")
             }
         }

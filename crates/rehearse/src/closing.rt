@@ -15,7 +15,12 @@ pub fn keys<C: Calls>(heap: Global, table: &C) -> Result<Vec<u32>, AllocError> {
         all.push(unit.serial)?;
     }
     for row in table.rows() {
-        if let Kind::RangeRow { unit: _, start: _, length: _, serial } = row.kind {
+        if let Kind::RangeRow {
+            unit: _,
+            start: _,
+            length: _,
+            serial,
+        } = row.kind {
             all.push(serial)?;
         }
     }

@@ -8,9 +8,9 @@ mod step;
 
 use input::read_script;
 use rehearsal::perform;
+use script::fault::ScriptErrorDisplay as _;
 use script::parse;
 use std::error::AnyError;
-use script::fault::ScriptErrorDisplay as _;
 
 fn main(rt: LibcRuntime) -> Result<(), AnyError> {
     let text = read_script(&rt)?;

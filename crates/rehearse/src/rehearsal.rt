@@ -24,7 +24,11 @@ pub fn perform(rt: &LibcRuntime, script: &Script) -> Result<(), AnyError> {
     }
 }
 
-fn over_vault<N: Numbering>(rt: &LibcRuntime, script: &Script, numbering: &N) -> Result<(), AnyError> {
+fn over_vault<N: Numbering>(
+    rt: &LibcRuntime,
+    script: &Script,
+    numbering: &N,
+) -> Result<(), AnyError> {
     let capacity = script.layout.capacity;
     match script.layout.vault {
         VaultKind::File => rehearse(rt, script, &mut KeyFile::new(capacity), numbering),
@@ -32,20 +36,33 @@ fn over_vault<N: Numbering>(rt: &LibcRuntime, script: &Script, numbering: &N) ->
             // More than 64 registers are unfit, however many there are, so 65 stand for any such number.
             let mut registers = [0; 65];
             let count = capacity.min(65) as usize;
-            rehearse(rt, script, &mut KeyChip::new(&mut registers[0..count]), numbering)
+            rehearse(
+                rt,
+                script,
+                &mut KeyChip::new(&mut registers[0..count]),
+                numbering,
+            )
         }
     }
 }
 
 /// Lays the table out, makes the calls in their order, and prints what took place.
-fn rehearse<'v, V: Vault, N: Numbering>(rt: &LibcRuntime, script: &Script, vault: &'v mut V, numbering: &'v N) -> Result<(), AnyError> {
+fn rehearse<'v, V: Vault, N: Numbering>(
+    rt: &LibcRuntime,
+    script: &Script,
+    vault: &'v mut V,
+    numbering: &'v N,
+) -> Result<(), AnyError> {
     let check = fresh_check(vault);
     let mut table = Table::fresh(vault, numbering);
     let words = script.layout_words.as_str();
     match check {
         Ok(()) => println!(rt, "{words} => open")?,
         Err(cause) => {
-            let refusal = Refusal { cause, asked: Asked::Command };
+            let refusal = Refusal {
+                cause,
+                asked: Asked::Command,
+            };
             println!(rt, "{words} => closed, {refusal}")?
         }
     }
@@ -57,7 +74,12 @@ fn rehearse<'v, V: Vault, N: Numbering>(rt: &LibcRuntime, script: &Script, vault
 }
 
 /// Makes the call of one line, prints its answer, and notes the keys that it eradicated.
-fn call<C: Calls>(rt: &LibcRuntime, table: &mut C, line: &Line, gone: &mut Vec<u32>) -> Result<(), AnyError> {
+fn call<C: Calls>(
+    rt: &LibcRuntime,
+    table: &mut C,
+    line: &Line,
+    gone: &mut Vec<u32>,
+) -> Result<(), AnyError> {
     let before = keys(rt.alloc(), table)?;
     let answer = make(table, line.call);
     let words = line.words.as_str();

@@ -7,11 +7,23 @@ pub struct ShownRow(pub Row);
 
 pub impl fmt::Display for ShownRow as ShownRowDisplay {
     fn fmt<W: fmt::Write>(&self, f: &mut fmt::Formatter<W>) -> fmt::Result {
-        let Row { kind, standing, flags } = self.0;
+        let Row {
+            kind,
+            standing,
+            flags,
+        } = self.0;
         match kind {
             Kind::Free | Kind::Global => write!(f, "unit none, start 0, length 0, key none")?,
             Kind::UnitRow { unit } => write!(f, "unit {unit}, start 0, length 0, key none")?,
-            Kind::RangeRow { unit, start, length, serial } => write!(f, "unit {unit}, start {start}, length {length}, key {serial}")?,
+            Kind::RangeRow {
+                unit,
+                start,
+                length,
+                serial,
+            } => write!(
+                f,
+                "unit {unit}, start {start}, length {length}, key {serial}"
+            )?,
         }
         let flags = ShownFlags(flags);
         let kind = kind_name(kind);
@@ -25,7 +37,12 @@ fn kind_name(kind: Kind) -> &'static str {
         Kind::Free => "free row",
         Kind::Global => "global row",
         Kind::UnitRow { unit: _ } => "unit row",
-        Kind::RangeRow { unit: _, start: _, length: _, serial: _ } => "range row",
+        Kind::RangeRow {
+            unit: _,
+            start: _,
+            length: _,
+            serial: _,
+        } => "range row",
     }
 }
 

@@ -19,9 +19,9 @@ use Rattle.rules.specs.Rows.{freeRow, globalRow}
 -- the vault can't serve, or it holds a key already
 abbrev pub fresh-refusal : Meaning → Option Cause
 fresh-refusal vault = firstOf (
-    (not (can-be-capacity (vault .capacity)) , Closed)
-  ∷ (ltb 0 (length (vault .held)) , Closed)
-  ∷ [])
+    (not (can-be-capacity (vault .capacity)), Closed)
+    ∷ (ltb 0 (length (vault .held)), Closed)
+    ∷ [])
 
 abbrev pub fresh-check : Meaning → Result (Unit {0}) Cause
 fresh-check vault = answer (fresh-refusal vault) tt

@@ -21,7 +21,7 @@ use Rattle.rules.specs.Units.{exists, unit}
 
 -- ---- Unused: how many keys are not in use
 abbrev pub unused-answer : Drive → Result ℕ Cause
-unused-answer d = answer (firstOf ((d .closed , Closed) ∷ [])) (unusedKeys d)
+unused-answer d = answer (firstOf ((d .closed, Closed) ∷ [])) (unusedKeys d)
 
 -- ---- Controls: the row that controls a block, and the serial of the block's key
 -- the range row of its unit that covers it, else the unit row, else row 0
@@ -43,10 +43,10 @@ control-of rows u block = record {
 
 abbrev pub controls-refusal : Drive → ℕ → ℕ → Option Cause
 controls-refusal d n block = firstOf (
-    (d .closed , Closed)
-  ∷ (not (exists n (d .units)) , NoSuchUnit)
-  ∷ (leb (unit n (d .units) .blocks) block , BlockOutOfRange)
-  ∷ [])
+    (d .closed, Closed)
+    ∷ (not (exists n (d .units)), NoSuchUnit)
+    ∷ (leb (unit n (d .units) .blocks) block, BlockOutOfRange)
+    ∷ [])
 
 abbrev pub controls-answer : Drive → ℕ → ℕ → Result Control Cause
 controls-answer d n block = answer (controls-refusal d n block) (control-of (d .rows) (unit n (d .units)) block)

@@ -117,15 +117,27 @@ impl Cause {
         match (self, asked) {
             (Cause::CallerNotAllowed, _) => Some(Status::NotAuthorized),
             (Cause::NoSuchUnit, Asked::Command) => Some(Status::InvalidNamespaceOrFormat),
-            (Cause::NoUnusedKey | Cause::SerialsRunOut | Cause::Locked, Asked::Method) => Some(Status::Fail),
-            (Cause::NoUnusedKey | Cause::SerialsRunOut | Cause::Locked, Asked::Command) => Some(Status::OperationDenied),
-            (Cause::UnitExists | Cause::BadSize | Cause::HasUnitRow | Cause::SixteenUnits, _) => Some(Status::OperationDenied),
+            (Cause::NoUnusedKey | Cause::SerialsRunOut | Cause::Locked, Asked::Method) => Some(
+                Status::Fail,
+            ),
+            (Cause::NoUnusedKey | Cause::SerialsRunOut | Cause::Locked, Asked::Command) => Some(
+                Status::OperationDenied,
+            ),
+            (Cause::UnitExists | Cause::BadSize | Cause::HasUnitRow | Cause::SixteenUnits, _) =>
+                Some(Status::OperationDenied),
             (Cause::NoFreeRow, _) => Some(Status::InsufficientRows),
             (Cause::LockEnabled, _) => Some(Status::Fail),
             (Cause::BlockOutOfRange, _) => Some(Status::LbaOutOfRange),
             (Cause::BlockLocked { block: _, row: _ }, _) => Some(Status::AccessDenied),
             (Cause::BufferShort { needed: _ }, _) => None,
-            (Cause::SheetHeader | Cause::SheetField | Cause::SheetRelation | Cause::OtherKeys | Cause::Closed, _) => None,
+            (
+                Cause::SheetHeader
+                | Cause::SheetField
+                | Cause::SheetRelation
+                | Cause::OtherKeys
+                | Cause::Closed,
+                _,
+            ) => None,
             (_, _) => Some(Status::InvalidParameter),
         }
     }

@@ -16,8 +16,11 @@ pub struct Bounds {
 /// How units are numbered. Code over numberings is proved once, from this law.
 pub trait Numbering {
     const MARK: u32;
+
     const FIRST: u32;
+
     const LAST: u32;
+
     const CODE: u16;
 
     ghost bounds: { Bounds };
@@ -35,14 +38,22 @@ pub struct Nvme {}
 
 pub impl Numbering for Nvme as NvmeNumbering {
     const MARK: u32 = 0;
+
     const FIRST: u32 = 1;
+
     const LAST: u32 = 0xFFFF_FFFE;
+
     const CODE: u16 = 1;
 
     ghost bounds = { record { mark = 0; first = 1; last = 0xFFFF_FFFE; code = 1 } };
 
     fn bounds_of() -> Bounds {
-        Bounds { mark: Self::MARK, first: Self::FIRST, last: Self::LAST, code: Self::CODE }
+        Bounds {
+            mark: Self::MARK,
+            first: Self::FIRST,
+            last: Self::LAST,
+            code: Self::CODE,
+        }
     }
 }
 
@@ -52,14 +63,22 @@ pub struct Scsi {}
 
 pub impl Numbering for Scsi as ScsiNumbering {
     const MARK: u32 = 0xFFFF_FFFF;
+
     const FIRST: u32 = 0;
+
     const LAST: u32 = 0xFFFF_FFFE;
+
     const CODE: u16 = 2;
 
     ghost bounds = { record { mark = 0xFFFF_FFFF; first = 0; last = 0xFFFF_FFFE; code = 2 } };
 
     fn bounds_of() -> Bounds {
-        Bounds { mark: Self::MARK, first: Self::FIRST, last: Self::LAST, code: Self::CODE }
+        Bounds {
+            mark: Self::MARK,
+            first: Self::FIRST,
+            last: Self::LAST,
+            code: Self::CODE,
+        }
     }
 }
 

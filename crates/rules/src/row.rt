@@ -19,9 +19,16 @@ pub enum Kind {
     /// Row 0: every block that no other row controls.
     Global,
     /// The blocks of one unit that none of its range rows covers.
-    UnitRow { unit: u32 },
+    UnitRow {
+        unit: u32,
+    },
     /// Some blocks of one unit, under a key of their own; also at length 0.
-    RangeRow { unit: u32, start: u64, length: u64, serial: u32 },
+    RangeRow {
+        unit: u32,
+        start: u64,
+        length: u64,
+        serial: u32,
+    },
 }
 
 /// Whether a row is in Single User Mode.
@@ -52,9 +59,15 @@ pub impl Test<Row> for Sought as SoughtTest {
     fn test(&self, row: &Row) -> bool {
         match (*self, row.kind) {
             (Sought::UnitRowOf { unit }, Kind::UnitRow { unit: u }) => u == unit,
-            (Sought::RangeOver { unit, block }, Kind::RangeRow { unit: u, start, length, serial: _ }) => {
-                u == unit && start <= block && block - start < length
-            }
+            (
+                Sought::RangeOver { unit, block },
+                Kind::RangeRow {
+                    unit: u,
+                    start,
+                    length,
+                    serial: _,
+                },
+            ) => { u == unit && start <= block && block - start < length }
             (_, _) => false,
         }
     }

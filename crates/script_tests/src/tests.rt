@@ -1,4 +1,3 @@
-use script::*;
 use script::calls::CallDebug;
 use script::calls::CallPartialEq;
 use script::calls::LayoutDebug;
@@ -6,6 +5,7 @@ use script::calls::LayoutPartialEq;
 use script::fault::ScriptErrorDisplay;
 use script::numbers::NumberFaultDebug;
 use script::numbers::NumberFaultPartialEq;
+use script::*;
 use std::alloc::Global;
 use std::test::*;
 
@@ -41,7 +41,9 @@ fn numbers_are_decimal_or_hexadecimal() -> Result<(), Fail> {
 fn a_script_is_read(rt: LibcRuntime) -> Result<(), Fail> {
     let text =
         "# the day's calls\n\n  fresh   scsi file 0x10 # blank\ncreate 1 1000\n\n delete 0x1#gone\ncontrols 4294967295 18446744073709551615\nunused";
-    let script = parse(rt.alloc(), text).ok().ok_or("the script was refused")?;
+    let script = parse(rt.alloc(), text)
+        .ok()
+        .ok_or("the script was refused")?;
     check_eq(script.layout_words.as_str(), "fresh scsi file 0x10")?;
     check_eq(
         script.layout,

@@ -2,6 +2,5 @@
 pub mod calls;
 pub mod refusals;
 pub mod state;
-
 #[cfg(test)]
 mod tests;

@@ -61,7 +61,10 @@ impl<'v, V: Vault, N: Numbering> Table<'v, V, N> {
         if !self.layout.units.exists(number) {
             return Some(Cause::NoSuchUnit);
         }
-        if self.layout.rows.find(Sought::UnitRowOf { unit: number }).is_some() {
+        if self.layout
+            .rows
+            .find(Sought::UnitRowOf { unit: number })
+            .is_some() {
             return Some(Cause::HasUnitRow);
         }
         if self.layout.global_locked() {

@@ -30,16 +30,16 @@ use Rattle.vault.proofs.Requests.{sound-from}
 pub fit-true : (words : List ℕ) → _≡_ {A = Outcome} (Ok tt) (chip-check words) → fit words ≡ true
 fit-true words e = go (fit words) e
   where
-  go : (b : Bool) → _≡_ {A = Outcome} (Ok tt) (answer (firstOf ((not b , Unfit) ∷ [])) tt) → b ≡ true
-  go true e = refl
-  go false e = grind arith
+    go : (b : Bool) → _≡_ {A = Outcome} (Ok tt) (answer (firstOf ((not b, Unfit) ∷ [])) tt) → b ≡ true
+    go true e = refl
+    go false e = grind arith
 
 pub fit-false : (words : List ℕ) (x : VaultRefusal) → _≡_ {A = Outcome} (Err x) (chip-check words) → fit words ≡ false
 fit-false words x e = go (fit words) e
   where
-  go : (b : Bool) → _≡_ {A = Outcome} (Err x) (answer (firstOf ((not b , Unfit) ∷ [])) tt) → b ≡ false
-  go true e = grind arith
-  go false e = refl
+    go : (b : Bool) → _≡_ {A = Outcome} (Err x) (answer (firstOf ((not b, Unfit) ∷ [])) tt) → b ≡ false
+    go true e = grind arith
+    go false e = refl
 
 pub fit-sound : (words : List ℕ) → fit words ≡ true → sound (record { capacity = length words; held = collect words }) ≡ true
 fit-sound words f = sound-from _ (rises-collect words (grind (arith, tells))) (length-collect words)

@@ -20,7 +20,7 @@ can-be-capacity n = leb 1 n && leb n 64
 
 -- ---- the key file: the first len of an array of serials
 abbrev pub file-check : ℕ → Outcome
-file-check capacity = answer (firstOf ((not (can-be-capacity capacity) , Unfit) ∷ [])) tt
+file-check capacity = answer (firstOf ((not (can-be-capacity capacity), Unfit) ∷ [])) tt
 
 abbrev pub file-meaning : List ℕ → ℕ → ℕ → Meaning
 file-meaning serials len capacity = record { capacity = capacity; held = take len serials }
@@ -34,7 +34,7 @@ abbrev pub fit : List ℕ → Bool
 fit words = can-be-capacity (length words) && distinct words
 
 abbrev pub chip-check : List ℕ → Outcome
-chip-check words = answer (firstOf ((not (fit words) , Unfit) ∷ [])) tt
+chip-check words = answer (firstOf ((not (fit words), Unfit) ∷ [])) tt
 
 abbrev pub chip-meaning : ℕ → List ℕ → Meaning
 chip-meaning used words = record { capacity = used; held = collect (take used words) }

@@ -37,10 +37,10 @@ with-held m held = record { capacity = m .capacity; held = held }
 -- Put: the serial is held from then on
 abbrev pub put-refusal : Meaning → ℕ → Option VaultRefusal
 put-refusal m s = firstOf (
-    (eqb s 0 , SerialZero)
-  ∷ (holds s (m .held) , AlreadyHeld)
-  ∷ (leb (m .capacity) (length (m .held)) , Full)
-  ∷ [])
+    (eqb s 0, SerialZero)
+    ∷ (holds s (m .held), AlreadyHeld)
+    ∷ (leb (m .capacity) (length (m .held)), Full)
+    ∷ [])
 
 abbrev pub put-answer : Meaning → ℕ → Outcome
 put-answer m s = answer (put-refusal m s) tt
@@ -51,10 +51,10 @@ put-after m s = unless (put-refusal m s) m (with-held m (adds s (m .held)))
 -- Swap: the new serial stands in the place of the old one
 abbrev pub swap-refusal : Meaning → ℕ → ℕ → Option VaultRefusal
 swap-refusal m old new = firstOf (
-    (not (holds old (m .held)) , NotHeld)
-  ∷ (eqb new 0 , SerialZero)
-  ∷ (holds new (m .held) , AlreadyHeld)
-  ∷ [])
+    (not (holds old (m .held)), NotHeld)
+    ∷ (eqb new 0, SerialZero)
+    ∷ (holds new (m .held), AlreadyHeld)
+    ∷ [])
 
 abbrev pub swap-answer : Meaning → ℕ → ℕ → Outcome
 swap-answer m old new = answer (swap-refusal m old new) tt
@@ -64,7 +64,7 @@ swap-after m old new = unless (swap-refusal m old new) m (with-held m (adds new 
 
 -- Drop: the serial leaves
 abbrev pub drop-refusal : Meaning → ℕ → Option VaultRefusal
-drop-refusal m s = firstOf ((not (holds s (m .held)) , NotHeld) ∷ [])
+drop-refusal m s = firstOf ((not (holds s (m .held)), NotHeld) ∷ [])
 
 abbrev pub drop-answer : Meaning → ℕ → Outcome
 drop-answer m s = answer (drop-refusal m s) tt

@@ -35,7 +35,11 @@ impl<'a> KeyChip<'a> {
         ensures { λ r. ⌜ r ≡ chip-check (now (registers .entry)) ⌝ }
     {
         let n = registers.len();
-        if n >= 1 && n <= 64 && all_distinct(registers) { Ok(()) } else { Err(VaultRefusal::Unfit) }
+        if n >= 1 && n <= 64 && all_distinct(registers) {
+            Ok(())
+        } else {
+            Err(VaultRefusal::Unfit)
+        }
     }
 
     /// The vault in these registers, or one with no place where `check` refuses them.

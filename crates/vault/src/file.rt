@@ -28,7 +28,11 @@ impl KeyFile {
     pub fn check(capacity: u32) -> Result<(), VaultRefusal>
         ensures { λ r. ⌜ r ≡ file-check capacity ⌝ }
     {
-        if capacity >= 1 && capacity <= 64 { Ok(()) } else { Err(VaultRefusal::Unfit) }
+        if capacity >= 1 && capacity <= 64 {
+            Ok(())
+        } else {
+            Err(VaultRefusal::Unfit)
+        }
     }
 
     /// An empty key file. Its capacity is 0 where `check` refuses.

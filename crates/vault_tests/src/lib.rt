@@ -27,11 +27,13 @@ mod tests {
     }
 
     fn ask<V: Vault>(vault: &mut V, request: Request) -> u32 {
-        number(match request {
-            Request::Put(serial) => vault.put(serial),
-            Request::Swap(old, new) => vault.swap(old, new),
-            Request::Drop(serial) => vault.drop_key(serial),
-        })
+        number(
+            match request {
+                Request::Put(serial) => vault.put(serial),
+                Request::Swap(old, new) => vault.swap(old, new),
+                Request::Drop(serial) => vault.drop_key(serial),
+            },
+        )
     }
 
     // Capacity 2, empty at first. Where several refusals apply, the first in order is answered.
@@ -62,7 +64,10 @@ mod tests {
         }
         check_eq((vault.capacity(), vault.count()), (2, 2))?;
         check_eq((vault.holds(5), vault.holds(9)), (true, true))?;
-        check_eq((vault.holds(0), vault.holds(7), vault.holds(LARGEST)), (false, false, false))
+        check_eq(
+            (vault.holds(0), vault.holds(7), vault.holds(LARGEST)),
+            (false, false, false),
+        )
     }
 
     #[test]
@@ -78,7 +83,12 @@ mod tests {
         let mut registers = [3, 0, 0, 8];
         let outcomes = {
             let mut chip = KeyChip::new(&mut registers);
-            [ask(&mut chip, Request::Put(7)), ask(&mut chip, Request::Drop(3)), ask(&mut chip, Request::Put(4)), ask(&mut chip, Request::Swap(8, 6))]
+            [
+                ask(&mut chip, Request::Put(7)),
+                ask(&mut chip, Request::Drop(3)),
+                ask(&mut chip, Request::Put(4)),
+                ask(&mut chip, Request::Swap(8, 6)),
+            ]
         };
         check_eq(outcomes, [0, 0, 0, 0])?;
         check_eq(registers, [4, 7, 0, 6])
@@ -86,9 +96,21 @@ mod tests {
 
     // A vault with no place: it holds nothing, and refuses as any full vault does.
     fn unfit<V: Vault>(vault: &mut V) -> Result<(), Fail> {
-        check_eq((vault.capacity(), vault.count(), vault.holds(3)), (0, 0, false))?;
-        check_eq((ask(vault, Request::Put(0)), ask(vault, Request::Put(3))), (41, 43))?;
-        check_eq((ask(vault, Request::Swap(3, 4)), ask(vault, Request::Drop(3))), (44, 44))
+        check_eq(
+            (vault.capacity(), vault.count(), vault.holds(3)),
+            (0, 0, false),
+        )?;
+        check_eq(
+            (ask(vault, Request::Put(0)), ask(vault, Request::Put(3))),
+            (41, 43),
+        )?;
+        check_eq(
+            (
+                ask(vault, Request::Swap(3, 4)),
+                ask(vault, Request::Drop(3)),
+            ),
+            (44, 44),
+        )
     }
 
     #[test]
@@ -108,7 +130,14 @@ mod tests {
         unfit(&mut KeyChip::new(&mut twice))?;
         check_eq(twice, [3, 0, 3])?;
         let mut many = [0; 65];
-        check_eq((number(KeyChip::check(&many)), number(KeyChip::check(&many[0..64])), number(KeyChip::check(&many[0..0]))), (29, 0, 29))?;
+        check_eq(
+            (
+                number(KeyChip::check(&many)),
+                number(KeyChip::check(&many[0..64])),
+                number(KeyChip::check(&many[0..0])),
+            ),
+            (29, 0, 29),
+        )?;
         unfit(&mut KeyChip::new(&mut many))?;
         check_eq(many, [0; 65])
     }

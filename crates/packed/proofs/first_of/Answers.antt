@@ -10,7 +10,7 @@ pub returns-then-test : need.returns-then-test
 returns-then-test g c = record {
   within = omega arith;
   place = sym (search-stop (g .P·Test .passes (c .args .p .now)) (c .args .xs .now) (c .loop-i .i) (omega arith) (c .index-xs-i .result) (c .index-xs-i .is) (sym (c .if-test .ensures tt)))
-    ∙ c .loop-i .inv;
+      ∙ c .loop-i .inv;
 }
 
 pub loop-i-again : need.loop-i-again

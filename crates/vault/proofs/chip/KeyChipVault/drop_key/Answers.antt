@@ -14,8 +14,8 @@ ghost-self c =
     let found = sym (c .in-Some .ensures tt .place) in
     let held = sym (c .if-not-holds .ensures tt) in
     let k = still (v .used) words (v .sized .0) (c .args .serial) (c .in-Some .at) found 0 _
-        (cleared (v .used) words (v .sized .0) (c .args .serial) (c .in-Some .at) found (nonzero (v .used) words (v .sized .0) (c .args .serial) held))
-        (drop-sound (chip-meaning (v .used) words) (v .ordered) (c .args .serial) held) (v .sized .1) in
+    (cleared (v .used) words (v .sized .0) (c .args .serial) (c .in-Some .at) found (nonzero (v .used) words (v .sized .0) (c .args .serial) held))
+    (drop-sound (chip-meaning (v .used) words) (v .ordered) (c .args .serial) held) (v .sized .1) in
     (k .0, (k .1, tt))
 
 pub returns-in-Some : need.returns-in-Some
@@ -25,8 +25,8 @@ returns-in-Some c =
     let found = sym (c .in-Some .ensures tt .place) in
     let held = sym (c .if-not-holds .ensures tt) in
     let d = done (v .used) words (v .sized .0) (c .args .serial) (c .in-Some .at) found 0 _
-        (cleared (v .used) words (v .sized .0) (c .args .serial) (c .in-Some .at) found (nonzero (v .used) words (v .sized .0) (c .args .serial) held)) _
-        (drop-accepted (chip-meaning (v .used) words) (c .args .serial) held) in
+    (cleared (v .used) words (v .sized .0) (c .args .serial) (c .in-Some .at) found (nonzero (v .used) words (v .sized .0) (c .args .serial) held)) _
+    (drop-accepted (chip-meaning (v .used) words) (c .args .serial) held) in
     record { lent = refl; kept = λ e. absurd (true≢false e); answer = d .0; after = d .1; words = d .2 }
 
 pub returns-in-rest : need.returns-in-rest

@@ -19,7 +19,7 @@ ghost-self c =
     let found = sym (c .in-Some .ensures tt .place) in
     let words = v .registers .now in
     let k = still (v .used) words (v .sized .0) 0 at found s _ (filled (v .used) words (v .sized .0) at found s (c .if-serial-eq0 .left))
-        (put-sound (chip-meaning (v .used) words) (v .ordered) s (omega arith) (sym (c .if-holds .ensures tt)) (free (v .used) words (v .sized .0) at found)) (v .sized .1) in
+    (put-sound (chip-meaning (v .used) words) (v .ordered) s (omega arith) (sym (c .if-holds .ensures tt)) (free (v .used) words (v .sized .0) at found)) (v .sized .1) in
     (k .0, (k .1, tt))
 
 pub returns-in-Some : need.returns-in-Some
@@ -31,7 +31,7 @@ returns-in-Some c =
     let words = v .registers .now in
     let m : Meaning = chip-meaning (v .used) words in
     let d = done (v .used) words (v .sized .0) 0 at found s _ (filled (v .used) words (v .sized .0) at found s (c .if-serial-eq0 .left)) _
-        (put-accepted m s (c .if-serial-eq0 .left) (sym (c .if-holds .ensures tt)) (free (v .used) words (v .sized .0) at found)) in
+    (put-accepted m s (c .if-serial-eq0 .left) (sym (c .if-holds .ensures tt)) (free (v .used) words (v .sized .0) at found)) in
     record { lent = refl; kept = λ e. absurd (true≢false e); answer = d .0; after = d .1; words = d .2 }
 
 pub returns-in-None : need.returns-in-None

@@ -14,8 +14,8 @@ ghost-self c =
     let found = sym (c .in-Some .ensures tt .place) in
     let held = sym (c .if-not-holds .ensures tt) in
     let k = still (v .used) words (v .sized .0) (c .args .old) (c .in-Some .at) found (c .args .new) _
-        (swapped (v .used) words (v .sized .0) (c .args .old) (c .in-Some .at) found (nonzero (v .used) words (v .sized .0) (c .args .old) held) (c .args .new) (c .if-new-eq0 .left))
-        (swap-sound (chip-meaning (v .used) words) (v .ordered) (c .args .old) held (c .args .new) (omega arith) (sym (c .if-holds .ensures tt))) (v .sized .1) in
+    (swapped (v .used) words (v .sized .0) (c .args .old) (c .in-Some .at) found (nonzero (v .used) words (v .sized .0) (c .args .old) held) (c .args .new) (c .if-new-eq0 .left))
+    (swap-sound (chip-meaning (v .used) words) (v .ordered) (c .args .old) held (c .args .new) (omega arith) (sym (c .if-holds .ensures tt))) (v .sized .1) in
     (k .0, (k .1, tt))
 
 pub returns-in-Some : need.returns-in-Some
@@ -25,8 +25,8 @@ returns-in-Some c =
     let found = sym (c .in-Some .ensures tt .place) in
     let held = sym (c .if-not-holds .ensures tt) in
     let d = done (v .used) words (v .sized .0) (c .args .old) (c .in-Some .at) found (c .args .new) _
-        (swapped (v .used) words (v .sized .0) (c .args .old) (c .in-Some .at) found (nonzero (v .used) words (v .sized .0) (c .args .old) held) (c .args .new) (c .if-new-eq0 .left)) _
-        (swap-accepted (chip-meaning (v .used) words) (c .args .old) (c .args .new) held (c .if-new-eq0 .left) (sym (c .if-holds .ensures tt))) in
+    (swapped (v .used) words (v .sized .0) (c .args .old) (c .in-Some .at) found (nonzero (v .used) words (v .sized .0) (c .args .old) held) (c .args .new) (c .if-new-eq0 .left)) _
+    (swap-accepted (chip-meaning (v .used) words) (c .args .old) (c .args .new) held (c .if-new-eq0 .left) (sym (c .if-holds .ensures tt))) in
     record { lent = refl; kept = λ e. absurd (true≢false e); answer = d .0; after = d .1; words = d .2 }
 
 pub returns-in-rest : need.returns-in-rest

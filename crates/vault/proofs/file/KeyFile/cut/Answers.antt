@@ -22,9 +22,10 @@ sub-self c = some (c .args .self .now .serials) (c .args .self .now .len) (c .ar
 pub ghost-self : need.ghost-self
 ghost-self c =
     let f = c .args .self .now in
-    let m : Meaning = file-meaning (f .serials) (f .len) (f .capacity) in
-    ((omega arith, omega arith, f .sized .2),
-    (ap (λ held. sound (with-held m held)) (simp (c .pre) at (c .take-from .ensures .left)) ∙ drop-sound m (f .ordered) (c .args .serial) (c .pre), tt))
+    let m : Meaning = file-meaning (f .serials) (f .len) (f .capacity) in (
+      (omega arith, omega arith, f .sized .2),
+      (ap (λ held. sound (with-held m held)) (simp (c .pre) at (c .take-from .ensures .left)) ∙ drop-sound m (f .ordered) (c .args .serial) (c .pre), tt),
+    )
 
 pub returns : need.returns
 returns c = record {
