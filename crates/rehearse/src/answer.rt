@@ -1,15 +1,7 @@
 use rules::cause::*;
 use rules::unit::*;
 use std::fmt;
-
-/// What a call answers.
-#[derive(Clone, Copy)]
-pub enum Answer {
-    Success,
-    Unused(u32),
-    Controls(Control),
-    Refused(Cause),
-}
+use steps::Answer;
 
 /// The name by which a host knows the status.
 fn name_of(status: Status) -> &'static str {
@@ -47,9 +39,13 @@ pub impl fmt::Display for Refusal as RefusalDisplay {
     }
 }
 
-pub impl fmt::Display for Answer as AnswerDisplay {
+/// An answer as it is printed.
+#[derive(Clone, Copy)]
+pub struct Told(pub Answer);
+
+pub impl fmt::Display for Told as ToldDisplay {
     fn fmt<W: fmt::Write>(&self, f: &mut fmt::Formatter<W>) -> fmt::Result {
-        match *self {
+        match self.0 {
             Answer::Success => write!(f, "SUCCESS"),
             Answer::Unused(count) => write!(f, "{count}"),
             Answer::Controls(Control { row, serial }) => write!(f, "row {row}, key {serial}"),

@@ -6,6 +6,7 @@ use std::alloc::AllocError;
 use std::alloc::Global;
 use std::error::AnyError;
 use std::fmt;
+use steps::Answer;
 use table::calls::*;
 
 /// The keys of the table: the units' in rising order, then the range rows'.
@@ -61,10 +62,11 @@ pub fn report<C: Calls>(rt: &LibcRuntime, table: &C, gone: &Vec<u32>) -> Result<
     }
     let held = Serials(held.as_slice());
     let gone = Serials(gone.as_slice());
-    println!(rt, "  keys held: {held}")?;
-    println!(rt, "  keys eradicated, in order: {gone}")?;
-    let unused = unused_answer(table);
-    println!(rt, "  unused: {unused}")?;
+    let unused = Told(unused_answer(table));
+    println!(
+        rt,
+        "  keys held: {held}\n  keys eradicated, in order: {gone}\n  unused: {unused}"
+    )?;
     Ok(())
 }
 

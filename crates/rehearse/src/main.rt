@@ -4,7 +4,6 @@ mod closing;
 mod input;
 mod rehearsal;
 mod shown_row;
-mod step;
 
 use input::read_script;
 use rehearsal::perform;

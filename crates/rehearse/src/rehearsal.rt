@@ -1,6 +1,5 @@
 use crate::answer::*;
 use crate::closing::*;
-use crate::step::make;
 use rules::cause::*;
 use rules::numbering::*;
 use script::Line;
@@ -8,6 +7,7 @@ use script::NumberingKind;
 use script::Script;
 use script::VaultKind;
 use std::error::AnyError;
+use steps::make;
 use table::calls::*;
 use table::state::*;
 use vault::Vault;
@@ -81,7 +81,7 @@ fn call<C: Calls>(
     gone: &mut Vec<u32>,
 ) -> Result<(), AnyError> {
     let before = keys(rt.alloc(), table)?;
-    let answer = make(table, line.call);
+    let answer = Told(make(table, line.call));
     let words = line.words.as_str();
     println!(rt, "{words} => {answer}")?;
     for serial in before.iter() {

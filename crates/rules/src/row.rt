@@ -3,7 +3,7 @@ ghost use Rattle.rules.specs.Rows.{suits};
 use packed::Test;
 
 /// The five lock flags of a row.
-#[derive(Clone, Copy, PartialEq, Eq, Debug)]
+#[derive(Clone, Copy)]
 pub struct Flags {
     pub read_lock_enabled: bool,
     pub write_lock_enabled: bool,
@@ -13,7 +13,7 @@ pub struct Flags {
 }
 
 /// What a row is for.
-#[derive(Clone, Copy, PartialEq, Eq, Debug)]
+#[derive(Clone, Copy)]
 pub enum Kind {
     Free,
     /// Row 0: every block that no other row controls.
@@ -32,14 +32,14 @@ pub enum Kind {
 }
 
 /// Whether a row is in Single User Mode.
-#[derive(Clone, Copy, PartialEq, Eq, Debug)]
+#[derive(Clone, Copy)]
 pub enum Standing {
     Shared,
     SingleUser,
 }
 
 /// A row of the Locking table.
-#[derive(Clone, Copy, PartialEq, Eq, Debug)]
+#[derive(Clone, Copy)]
 pub struct Row {
     pub kind: Kind,
     pub standing: Standing,

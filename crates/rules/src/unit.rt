@@ -3,7 +3,7 @@ ghost use Prim.Native.Nat.{ℕ};
 use packed::Keyed;
 
 /// A unit: an NVMe namespace or a SCSI logical unit, with one media key of its own.
-#[derive(Clone, Copy, PartialEq, Eq, Debug)]
+#[derive(Clone, Copy)]
 pub struct LogicalUnit {
     pub number: u32,
     pub blocks: u64,
@@ -21,7 +21,7 @@ pub impl Keyed for LogicalUnit as UnitKeyed {
 }
 
 /// The row that controls a block, and the serial of the block's key.
-#[derive(Clone, Copy, PartialEq, Eq, Debug)]
+#[derive(Clone, Copy)]
 pub struct Control {
     pub row: u32,
     pub serial: u32,

@@ -1,4 +1,3 @@
-pub mod Number
 pub mod Spelling
 pub mod Line
 pub mod Says

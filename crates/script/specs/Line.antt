@@ -11,7 +11,7 @@ use Rattle.std.specs.declared.option.Option.the-variants.{Some, None}
 use Rattle.std.specs.declared.result.Result.{Result}
 use Rattle.std.specs.declared.result.Result.the-variants.{Ok, Err}
 use Rattle.std.specs.Results.{isErr}
-use Rattle.script.specs.declared.numbers.NumberFault.{NumberFault}
+use Rattle.numerals.specs.declared.NumberFault.{NumberFault}
 
 -- a line up to its comment
 abbrev pub uncommented : List ℕ → List ℕ

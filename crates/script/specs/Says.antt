@@ -10,7 +10,7 @@ use Rattle.std.specs.Of.String.{string-bytes}
 use Rattle.std.specs.Of.Vec.{vec-items}
 use Rattle.std.specs.shelf.Lists.{All}
 use Rattle.script.specs.Line.{wordsOf}
-use Rattle.script.specs.Number.{read, fitted}
+use Rattle.numerals.specs.Number.{read, fitted}
 use Rattle.script.specs.declared.calls.Call.{Call}
 use Rattle.script.specs.declared.calls.Call.the-variants.{Create, Delete, Controls, Unused}
 use Rattle.script.specs.declared.calls.Layout.{Layout}

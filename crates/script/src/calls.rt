@@ -1,21 +1,21 @@
 //! What a script says: the layout of the table, and the calls on it.
 
 /// How the drive numbers its units.
-#[derive(Clone, Copy, Debug, PartialEq, Eq)]
+#[derive(Clone, Copy)]
 pub enum NumberingKind {
     Nvme,
     Scsi,
 }
 
 /// Where the drive keeps its keys.
-#[derive(Clone, Copy, Debug, PartialEq, Eq)]
+#[derive(Clone, Copy)]
 pub enum VaultKind {
     Chip,
     File,
 }
 
 /// The table that the first call lays out, blank, over an empty vault.
-#[derive(Clone, Copy, Debug, PartialEq, Eq)]
+#[derive(Clone, Copy)]
 pub struct Layout {
     pub numbering: NumberingKind,
     pub vault: VaultKind,
@@ -23,7 +23,7 @@ pub struct Layout {
 }
 
 /// A call on the table that is laid out.
-#[derive(Clone, Copy, Debug, PartialEq, Eq)]
+#[derive(Clone, Copy)]
 pub enum Call {
     Create { unit: u32, blocks: u64 },
     Delete { unit: u32 },

@@ -2,7 +2,6 @@
 pub mod calls;
 pub mod fault;
 mod keywords;
-pub mod numbers;
 mod parser;
 mod words;
 
@@ -14,7 +13,4 @@ pub use calls::Script;
 pub use calls::VaultKind;
 pub use fault::Fault;
 pub use fault::ScriptError;
-pub use numbers::NumberFault;
-pub use numbers::number;
-pub use numbers::number_u32;
 pub use parser::parse;

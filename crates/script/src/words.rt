@@ -6,11 +6,11 @@ ghost use Rattle.std.specs.Of.String.{string-bytes};
 ghost use Rattle.std.specs.Results.{Cases};
 ghost use Rattle.std.specs.Vec.{made};
 ghost use Rattle.script.specs.Line.{uncommented, wordsOf, spaced, Took, Given, Counted};
-ghost use Rattle.script.specs.Number.{read, fitted};
+ghost use Rattle.numerals.specs.Number.{read, fitted};
 use crate::fault::Fault;
-use crate::numbers::NumberFault;
-use crate::numbers::number;
-use crate::numbers::number_u32;
+use numerals::NumberFault;
+use numerals::number;
+use numerals::number_u32;
 use std::alloc::AllocError;
 use std::alloc::Global;
 

@@ -2,5 +2,3 @@
 pub mod calls;
 pub mod refusals;
 pub mod state;
-#[cfg(test)]
-mod tests;

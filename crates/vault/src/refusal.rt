@@ -2,7 +2,7 @@ ghost use Rattle.vault.specs.Meaning.{number};
 ghost use mathlib.Core.Path.{_≡_};
 
 /// Why a vault, or the check before it is made, refuses.
-#[derive(Clone, Copy, PartialEq, Eq, Debug)]
+#[derive(Clone, Copy)]
 pub enum VaultRefusal {
     /// The capacity is outside 1 to 64, or the registers repeat a serial.
     Unfit,

@@ -1,13 +1,10 @@
-use crate::calls::*;
-use crate::state::*;
-use layout::content::*;
-use layout::rows::*;
-use layout::units::*;
 use rules::cause::*;
 use rules::numbering::*;
 use rules::row::*;
 use rules::unit::*;
 use std::test::*;
+use table::calls::*;
+use table::state::*;
 use vault::Vault;
 use vault::chip::KeyChip;
 use vault::chip::KeyChipVault;
@@ -15,8 +12,6 @@ use vault::file::KeyFile;
 use vault::file::KeyFileVault;
 
 const LARGEST_UNIT: u32 = 0xFFFF_FFFE;
-
-const LARGEST_SERIAL: u32 = 4_294_967_294;
 
 const LARGEST_SIZE: u64 = 0x1_0000_0000_0000;
 
@@ -116,29 +111,29 @@ fn scsi_unit_0_is_a_unit() -> Result<(), Fail> {
 }
 
 #[test]
-fn sixteen_units_and_the_largest_serial() -> Result<(), Fail> {
+fn sixteen_units_and_no_seventeenth() -> Result<(), Fail> {
     let mut file = KeyFile::new(64);
     let mut table = Table::fresh(&mut file, &Nvme {});
-    for unit in 1..16 {
+    for unit in 1..17 {
         check_eq(number(table.create(unit, 1)), 0)?;
     }
-    table.layout.next = LARGEST_SERIAL;
     check_eq(
-        (number(table.create(16, 1)), controls(&table, 16, 0)),
-        (0, (0, LARGEST_SERIAL)),
+        (
+            number(table.create(17, 0)),
+            number(table.create(17, 1)),
+            controls(&table, 16, 0),
+        ),
+        (7, 19, (0, 16)),
     )?;
     check_eq(
         (
-            number(table.create(17, 1)),
             number(table.delete(1)),
             number(table.create(17, 1)),
+            controls(&table, 17, 0),
         ),
-        (19, 0, 13),
+        (0, 0, (0, 17)),
     )?;
-    check_eq(
-        (table.holds(LARGEST_SERIAL), table.unused().ok()),
-        (true, Some(49)),
-    )
+    check_eq(table.unused().ok(), Some(48))
 }
 
 #[test]

@@ -8,8 +8,8 @@ use Rattle.rules.specs.Commands.{create-answer, create-after, delete-answer, de
 use Rattle.rules.specs.Questions.{unused-answer, controls-answer}
 use Rattle.script.specs.declared.calls.Call.{Call}
 use Rattle.script.specs.declared.calls.Call.the-variants.{Create, Delete, Controls, Unused}
-use Rattle.rehearse.specs.declared.answer.Answer.{Answer}
-use Rattle.rehearse.specs.declared.answer.Answer.the-variants as answers
+use Rattle.steps.specs.declared.Answer.{Answer}
+use Rattle.steps.specs.declared.Answer.the-variants as answers
 
 -- an outcome, told by how its value is told
 abbrev pub told : {A : Type 0} → (A → Answer) → Result A Cause → Answer

@@ -1,8 +1,19 @@
+//! One call of a script on a table: what it answers, and what it leaves.
 ghost use mathlib.Core.Path.{_≡_};
-ghost use Rattle.rehearse.specs.Step.{answerTo, after};
-use crate::answer::Answer;
+ghost use Rattle.steps.specs.Step.{answerTo, after};
+use rules::cause::Cause;
+use rules::unit::Control;
 use script::Call;
 use table::calls::*;
+
+/// What a call answers.
+#[derive(Clone, Copy)]
+pub enum Answer {
+    Success,
+    Unused(u32),
+    Controls(Control),
+    Refused(Cause),
+}
 
 /// Makes one call.
 pub fn make<C: Calls>(table: &mut C, call: Call) -> Answer

@@ -1,7 +1,7 @@
 //! Numbers: decimal, or hexadecimal after `0x`.
 ghost use mathlib.Core.Path.{_≡_};
 ghost use Prim.Native.Nat.{_^_, _≤_};
-ghost use Rattle.script.specs.Number.{numeral, readIn, read, fitted};
+ghost use Rattle.numerals.specs.Number.{numeral, readIn, read, fitted};
 
 /// Why a word is not a number that can be used.
 #[derive(Clone, Copy, Debug, PartialEq, Eq)]

@@ -9,8 +9,8 @@ use lib.ListN.{length, getD, drop}
 use Rattle.std.specs.shelf.Lists.{List}
 use Rattle.std.specs.Text.{digitValue}
 use Rattle.std.proofs.shelf.Lists.{at-drop-more, at-drop-all}
-use Rattle.script.specs.Number.{allDigits}
-use Rattle.script.proofs.numbers.is_numeral.Needs as need
+use Rattle.numerals.specs.Number.{allDigits}
+use Rattle.numerals.proofs.is_numeral.Needs as need
 
 one-more : (base : ℕ) (bs : List ℕ) (i : ℕ) → i < length bs →
     allDigits base (drop i bs) ≡ (ltb (digitValue (getD bs i 0)) base && allDigits base (drop (i + 1) bs))

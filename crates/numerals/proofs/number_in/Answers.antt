@@ -1,6 +1,6 @@
 use borrow.Author.Needs.{needs}
-use Rattle.script.proofs.Numerals.{converted}
-use Rattle.script.proofs.numbers.number_in.Needs as need
+use Rattle.numerals.proofs.Numerals.{converted}
+use Rattle.numerals.proofs.number_in.Needs as need
 
 pub returns-in-Err : need.returns-in-Err
 returns-in-Err c =

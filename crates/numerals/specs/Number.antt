@@ -10,8 +10,8 @@ use Rattle.std.specs.declared.result.Result.the-variants.{Ok, Err}
 use Rattle.std.specs.Reads.{value}
 use Rattle.std.specs.Text.{digitValue}
 use Rattle.std.specs.shelf.Text.{sameBytes}
-use Rattle.script.specs.declared.numbers.NumberFault.{NumberFault}
-use Rattle.script.specs.declared.numbers.NumberFault.the-variants.{NotANumber, TooLarge}
+use Rattle.numerals.specs.declared.NumberFault.{NumberFault}
+use Rattle.numerals.specs.declared.NumberFault.the-variants.{NotANumber, TooLarge}
 
 -- each byte is a digit of the base
 abbrev pub allDigits : ℕ → List ℕ → Bool

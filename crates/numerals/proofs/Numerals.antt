@@ -9,7 +9,7 @@ use Rattle.std.specs.declared.result.Result.{Result}
 use Rattle.std.specs.declared.result.Result.the-variants.{Ok, Err}
 use Rattle.std.specs.Numbers.{Converted}
 use Rattle.std.specs.Reads.{Digits, Numeral, ReadsUnsigned, value, afterPlus}
-use Rattle.script.specs.Number.{allDigits, numeral, isHex}
+use Rattle.numerals.specs.Number.{allDigits, numeral, isHex}
 
 pub digits-all : (base : ℕ) (bs : List ℕ) → allDigits base bs ≡ true → Digits base bs
 digits-all base [] h = tt
