@@ -7,18 +7,26 @@ use std::io;
 pub fn read_script(rt: &LibcRuntime) -> Result<String, AnyError> {
     let mut words = env::args(rt)?;
     let _program = words.next();
-    let read = match (words.next(), words.next()) {
-        (None, _) => io::read_to_string(rt.alloc(), rt.stdin()),
-        (Some(path), None) => fs::read_to_string(rt, path.as_str()),
+    match (words.next(), words.next()) {
+        (None, _) => text_of(
+            rt,
+            "standard input",
+            io::read_to_string(rt.alloc(), rt.stdin()),
+        ),
+        (Some(path), None) => text_of(rt, path.as_str(), fs::read_to_string(rt, path.as_str())),
         (Some(_), Some(_)) => {
             eprintln!(rt, "rehearse: one script at a time: rehearse FILE")?;
-            return Err("too many words".into());
+            Err("more than one script".into())
         }
-    };
+    }
+}
+
+/// What was read, or the end of the program with a message that names the file.
+fn text_of(rt: &LibcRuntime, name: &str, read: io::Result<String>) -> Result<String, AnyError> {
     match read {
         Ok(text) => Ok(text),
         Err(error) => {
-            eprintln!(rt, "rehearse: the script cannot be read: {error}")?;
+            eprintln!(rt, "rehearse: {name} cannot be read: {error}")?;
             Err("the script cannot be read".into())
         }
     }
