@@ -1,4 +1,6 @@
 //! The plain content of a table: units, rows, next serial and policy. It knows no vault and no session.
+#![tactic(auto)]
+
 pub mod content;
 pub mod edits;
 pub mod lookups;

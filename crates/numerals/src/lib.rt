@@ -1,4 +1,6 @@
 //! Numbers: decimal, or hexadecimal after `0x`.
+#![tactic(auto)]
+
 ghost use Rattle.std.specs.Prelude.{◌≡◌, ◌^◌, ◌≤◌};
 ghost use Rattle.numerals.specs.Number.{numeral, read_in, read, fitted};
 

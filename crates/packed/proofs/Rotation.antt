@@ -1,10 +1,10 @@
 -- A rotation by one place of a part of a slice puts an element into the packed front, or takes one out.
-use Rattle.std.proofs.Common.{◌≡◌, ℕ, suc, ◌+◌, ◌-◌, ◌<◌, ◌≤◌, List, [], ◌∷◌, ◌++◌, length, take, drop, set, sym, refl, ap, ◌∙◌, add-one, arith}
+use Rattle.std.proofs.Common.{◌≡◌, ℕ, suc, ◌+◌, ◌-◌, ◌<◌, ◌≤◌, List, [], ◌∷◌, ◌++◌, length, take, drop, set, sym, ap, ◌∙◌, add-one, arith}
 use borrow.Rule.Slice.PartMut.{put_mid}
-use Rattle.std.specs.List.{insert, remove, between}
-use Rattle.std.proofs.lemmas.List.{length-take-le, length-drop, length-append, length-set, take-set, take-set-le, take-take, take_more_set, take_at, take-append-le, drop_at, drop-append-le, drop-drop, append_assoc}
+use Rattle.std.specs.List.{insert, remove}
+use Rattle.std.proofs.lemmas.List.{length-take-le, length-drop, length-append, length-set, take-set-le, take-take, take_more_set, take_at, drop_at, drop-append-le, drop-drop, append_assoc}
 use lib.Seq.{take-append-add}
-use Rattle.std.proofs.lemmas.Slice.{take-put_mid, take-put_mid_below, between_is}
+use Rattle.std.proofs.lemmas.Slice.{take-put_mid, between_is}
 
 module _ {A : Type 0} (xs : List A) (at len : ℕ) where
   module _ (new : A) (low : at ≤ len) (fits : len < length xs) where

@@ -1,4 +1,6 @@
 //! Searches in a slice, and lists that are packed at the front of one in rising order.
+#![tactic(auto)]
+
 ghost use Rattle.packed.specs.First.{first};
 ghost use Rattle.std.specs.Prelude.{◌≡◌, ℕ, ◌+◌, ◌-◌, ◌<◌, ◌≤◌, Bool, length, take, is_some, IfSome, if◌then◌else◌, ◌==◌, nat_le};
 ghost use Rattle.packed.specs.Rising.{has, lookup, insert, remove};

@@ -1,4 +1,6 @@
 //! Rehearses a script of calls on a drive's table, and prints what each would answer and which keys would go.
+#![tactic(auto)]
+
 mod answer;
 mod closing;
 mod input;

@@ -1,5 +1,7 @@
 //! Goes through the worked sequence and says of each step how its reply is shown to be right: by proof from the
 //! definitions, or by the code, run on a key file and on a key chip.
+#![tactic(auto)]
+
 mod show;
 
 use cases::run::*;

@@ -1,18 +1,16 @@
 -- Drives that differ in keys alone: fresh keys change no range, no flag, no size.
-use Rattle.std.proofs.Common.{◌≡◌, ℕ, zero, suc, ◌+◌, ◌<◌, ◌≤◌, Bool, true, false, cond, ◌≢◌, ◌⊎◌, List, [], ◌∷◌, map, length, get_or, set, sym, refl, ap, ◌∙◌, subst, inl, inr, arith}
+use Rattle.std.proofs.Common.{◌≡◌, ℕ, ◌≤◌, List, [], ◌∷◌, length, sym, refl, ap, ◌∙◌, arith}
 use Rattle.std.proofs.lemmas.List.{length-set}
-use Rattle.rules.specs.declared.row.Flags.{Flags}
 use Rattle.rules.specs.declared.row.Kind.{Kind}
 use Rattle.rules.specs.declared.row.Kind.TheVariants.{Free, Global, UnitRow, RangeRow}
 use Rattle.rules.specs.declared.row.Row.{Row}
 use Rattle.rules.specs.declared.row.Sought.TheVariants.{UnitRowOf, RangeOver}
 use Rattle.rules.specs.declared.unit.Holder.{Holder}
 use Rattle.rules.specs.declared.unit.Holder.TheVariants.{TheUnit, TheRow}
-use Rattle.rules.specs.declared.unit.LogicalUnit.{LogicalUnit}
 use Rattle.rules.specs.Drive.{Drive}
 use Rattle.rules.specs.FreshKeys.{fresh_key, fresh_keys}
 use Rattle.rules.specs.Questions.{controlling_row}
-use Rattle.rules.specs.Rows.{no_row, row, is_free, with_serial, unit_row_of, range_over, suits, lowest_row}
+use Rattle.rules.specs.Rows.{no_row, row, is_free, with_serial, unit_row_of, range_over, suits}
 use Rattle.rules.specs.Units.{exists, unit}
 use Rattle.rules.proofs.Renewals.{rekeyed_row, keyed-exists, keyed-blocks, unit-row-same, range-over-same}
 use Rattle.rules.proofs.Searches.{first-same, set-alike, control-as}

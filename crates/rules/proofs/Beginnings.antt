@@ -1,9 +1,8 @@
 -- A blank drive is one that a sheet can describe.
-use Rattle.std.proofs.Common.{◌≡◌, ℕ, zero, suc, ◌+◌, ◌<◌, ◌≤◌, Bool, true, false, not, ltb, List, [], ◌∷◌, map, length, replicate, is_some, None, sym, refl, ap, ◌∙◌, subst, arith}
+use Rattle.std.proofs.Common.{◌≡◌, ℕ, zero, suc, ◌<◌, true, false, not, ltb, [], ◌∷◌, length, replicate, is_some, None, sym, refl, ap, ◌∙◌, arith}
 use Rattle.std.proofs.lemmas.List.{get_or-replicate, nil_from_length}
 use Rattle.std.proofs.lemmas.Bool.{both_ways, ltb-false, not-false, true≢false}
 use Rattle.packed.specs.Rising.{rises, has}
-use Rattle.vault.specs.Checks.{first_of}
 use Rattle.vault.specs.Kinds.{can_be_capacity}
 use Rattle.vault.specs.Meaning.{Meaning, sound}
 use Rattle.vault.specs.Serials.{holds, collect}
@@ -13,7 +12,7 @@ use Rattle.rules.specs.declared.row.Row.{Row}
 use Rattle.rules.specs.declared.row.Sought.{Sought}
 use Rattle.rules.specs.declared.row.Sought.TheVariants.{UnitRowOf, RangeOver}
 use Rattle.rules.specs.LayingOut.{fresh_refusal, fresh}
-use Rattle.rules.specs.Rows.{blank, no_row, row, free_row, global_row, is_free, suits, any_row}
+use Rattle.rules.specs.Rows.{blank, no_row, row, free_row, global_row, suits, any_row}
 use Rattle.rules.specs.Sound.{Sound, SoundRows, AtMostOne, is_global, row_fits}
 use Rattle.rules.proofs.Accepted.{all-passed}
 use Rattle.rules.proofs.Keys.{make-keys}

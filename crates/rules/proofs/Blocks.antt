@@ -1,7 +1,7 @@
 -- A block of a unit: its row and its key.
-use Rattle.std.proofs.Common.{◌≡◌, ℕ, zero, suc, ◌+◌, ◌<◌, ◌≤◌, Bool, true, false, cond, not, ◌&&◌, ◌||◌, eqb, ltb, leb, ◌≢◌, ◌⊎◌, List, [], ◌∷◌, map, length, get_or, set, is_some, Some, None, filter, Option, unwrap_or, sym, refl, ap, ◌∙◌, subst, inl, inr, ⊎_elim, arith}
+use Rattle.std.proofs.Common.{◌≡◌, ℕ, ◌+◌, ◌<◌, ◌≤◌, Bool, true, false, cond, not, eqb, ◌≢◌, ◌⊎◌, List, [], ◌∷◌, map, length, get_or, is_some, None, filter, Option, unwrap_or, sym, refl, ap, ◌∙◌, subst, inl, inr, arith}
 use Rattle.std.proofs.lemmas.Bool.Decides.{nat_tests}
-use Rattle.std.proofs.lemmas.Bool.{cases_Bool, cases_eq, both_ways, and_parts, eqb-true, eq-eqb, ltb-true, true≢false, cond-true, cond-false}
+use Rattle.std.proofs.lemmas.Bool.{cases_eq, both_ways, and_parts, eqb-true, eq-eqb, ltb-true, true≢false, cond-true}
 use Rattle.packed.specs.Rising.{has}
 use Rattle.packed.proofs.Order.{lookup-found}
 use Rattle.packed.proofs.Search.{found_within}
@@ -14,17 +14,17 @@ use Rattle.rules.specs.declared.unit.Holder.TheVariants.{TheUnit, TheRow}
 use Rattle.rules.specs.declared.unit.LogicalUnit.{LogicalUnit}
 use Rattle.rules.specs.Drive.{Drive}
 use Rattle.rules.specs.FreshKeys.{fresh_key, fresh_keys, units_under_global}
-use Rattle.rules.specs.Laws.{has_block, block_key}
+use Rattle.rules.specs.Laws.{block_key}
 use Rattle.rules.specs.Methods.{kind_of}
 use Rattle.rules.specs.Questions.{controlling_row, key_or}
-use Rattle.rules.specs.Rows.{no_row, row, is_free, covers, unit_row_of, range_over, lowest_row, is_there}
-use Rattle.rules.specs.Sound.{Sound, SoundRows, is_global, row_fits, serials, row_key}
+use Rattle.rules.specs.Rows.{row, is_free, covers, unit_row_of, range_over, lowest_row, is_there}
+use Rattle.rules.specs.Sound.{Sound, SoundRows, row_fits, serials}
 use Rattle.rules.specs.Units.{no_unit, exists, unit}
 use Rattle.rules.proofs.Keys.{word_held}
 use Rattle.rules.proofs.Lookups.{place_of, lookup_key}
 use Rattle.rules.proofs.Renewals.{unit-key, keyed-exists, keyed-serial}
 use Rattle.rules.proofs.RowsKept.{within, in_table, unit-row-there, fits-exists, fits_under, fits-key}
-use Rattle.rules.proofs.Searches.{hit, hit-within, control-by}
+use Rattle.rules.proofs.Searches.{hit, control-by}
 use Rattle.rules.proofs.Words.{words_long, unit-word, row_word}
 
 -- the unit that is found has the number that is looked for

@@ -1,12 +1,10 @@
 -- Fresh keys are given in order, each to another holder.
-use Rattle.std.proofs.Common.{◌≡◌, ℕ, zero, suc, ◌+◌, ◌<◌, ◌≤◌, Bool, true, false, cond, not, ◌&&◌, eqb, leb, ◌≢◌, ◌⊎◌, List, [], ◌∷◌, map, length, get_or, set, filter, sym, refl, ap, ◌∙◌, subst, inl, inr, arith}
+use Rattle.std.proofs.Common.{◌≡◌, ℕ, zero, suc, ◌+◌, ◌<◌, Bool, true, false, cond, not, eqb, leb, ◌≢◌, List, [], ◌∷◌, map, length, get_or, filter, sym, refl, ap, ◌∙◌, inl, inr, arith}
 use Rattle.std.proofs.ByRecursion.{All-weaker, All-map}
 use Rattle.std.proofs.lemmas.List.{get_or_past}
-use Rattle.std.proofs.lemmas.Bool.Decides.{nat_tests}
 use Rattle.std.proofs.lemmas.Bool.{cases_lt, both_ways, and_parts, leb-true, eq-eqb, ne_eqb, cond-true, cond-false}
 use Rattle.std.specs.List.{AllByRecursion as All}
 use Rattle.packed.specs.Rising.{rises}
-use Rattle.packed.proofs.Order.{rises-lower}
 use Rattle.rules.specs.declared.row.Kind.{Kind}
 use Rattle.rules.specs.declared.row.Kind.TheVariants.{Free, Global, UnitRow, RangeRow}
 use Rattle.rules.specs.declared.row.Row.{Row}
@@ -22,7 +20,6 @@ use Rattle.rules.specs.Methods.{kind_of}
 use Rattle.rules.specs.Questions.{key_or}
 use Rattle.rules.specs.Rows.{no_row, row, is_range_row, with_serial, suits, is_there, all_rows}
 use Rattle.rules.specs.Sound.{Sound}
-use Rattle.rules.specs.Units.{exists, unit}
 use Rattle.rules.proofs.Renewals.{range-parts, keyed-serial, rekeyed_row, valid-kept, valid-of-row, valid-of-unit}
 use Rattle.rules.proofs.Searches.{written, unwritten}
 

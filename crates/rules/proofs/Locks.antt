@@ -1,9 +1,9 @@
 -- What one call can open.
-use Rattle.std.proofs.Common.{◌≡◌, ℕ, zero, suc, ◌+◌, ◌<◌, ◌≤◌, Bool, true, false, cond, not, ◌&&◌, ◌||◌, eqb, ltb, leb, ◌≢◌, ◌⊎◌, List, [], ◌∷◌, map, length, get_or, set, Some, None, Option, unwrap_or, sym, refl, ap, ◌∙◌, subst, inl, inr, ⊎_elim, arith}
-use Rattle.std.proofs.lemmas.List.{length-set, length-map, get_or_past}
+use Rattle.std.proofs.Common.{◌≡◌, ℕ, ◌<◌, ◌≤◌, Bool, true, false, cond, not, ◌&&◌, ◌||◌, eqb, ltb, ◌≢◌, ◌⊎◌, List, [], ◌∷◌, map, length, set, Some, None, Option, unwrap_or, sym, refl, ap, ◌∙◌, subst, inl, inr, arith}
+use Rattle.std.proofs.lemmas.List.{length-map, get_or_past}
 use Rattle.std.proofs.lemmas.Bool.Decides.{nat_tests}
-use Rattle.std.proofs.lemmas.Bool.{cases_Bool, cases_eq, cases_lt, both_ways, and_parts, and_from, and_left, eqb-true, eq-eqb, ne_eqb, true≢false, not-true, not-false, or_parts, cond-true, cond-false}
-use Rattle.packed.specs.Rising.{has, lookup}
+use Rattle.std.proofs.lemmas.Bool.{cases_Bool, cases_eq, cases_lt, both_ways, and_parts, eqb-true, eq-eqb, ne_eqb, true≢false, not-false, or_parts, cond-true}
+use Rattle.packed.specs.Rising.{lookup}
 use Rattle.packed.proofs.Order.{has-insert}
 use Rattle.vault.specs.Checks.{unless}
 use Rattle.rules.specs.declared.access.Access.{Access}
@@ -17,31 +17,30 @@ use Rattle.rules.specs.declared.row.Flags.{Flags}
 use Rattle.rules.specs.declared.row.Kind.{Kind}
 use Rattle.rules.specs.declared.row.Kind.TheVariants.{Free, Global, UnitRow, RangeRow}
 use Rattle.rules.specs.declared.row.Row.{Row}
-use Rattle.rules.specs.declared.row.Sought.{Sought}
-use Rattle.rules.specs.declared.row.Sought.TheVariants.{UnitRowOf, RangeRowOf, RangeOver, RangeSharing}
+use Rattle.rules.specs.declared.row.Sought.TheVariants.{UnitRowOf, RangeRowOf, RangeOver}
 use Rattle.rules.specs.declared.row.Standing.{Standing}
 use Rattle.rules.specs.declared.unit.Holder.TheVariants.{TheUnit, TheRow}
 use Rattle.rules.specs.declared.unit.LogicalUnit.{LogicalUnit}
 use Rattle.rules.specs.Calls.{refusal, left, said, after, answer, refused_or}
 use Rattle.rules.specs.Commands.{create_refusal, created, new_unit, deleted, formatted, was_reset}
-use Rattle.rules.specs.Drive.{Drive, with_rows, with_units}
+use Rattle.rules.specs.Drive.{Drive}
 use Rattle.rules.specs.FreshKeys.{fresh_keys, holders_of, unit_and_ranges}
 use Rattle.rules.specs.Laws.{has_block, block_key, FreshlyKeyed, SetByOwner}
-use Rattle.rules.specs.Methods.{row_of, kind_of, row_locked, assign_checks, assign_refusal, range_row_checks, unit_row_checks, row_to_take, taken, unit_row_assigned, range_row_assigned, assigned, deassign_checks, receiver, range_rows_remain, freed, given_up, set_range_checks, range_set, set_locks_checks, set_locks_refusal, locks_set, key_generated, erase_checks, erased, reactivate_checks, reactivated_row, reactivated}
+use Rattle.rules.specs.Methods.{row_of, kind_of, row_locked, assign_checks, assign_refusal, range_row_checks, unit_row_checks, row_to_take, unit_row_assigned, range_row_assigned, assigned, deassign_checks, receiver, range_rows_remain, freed, given_up, set_range_checks, range_set, set_locks_checks, set_locks_refusal, locks_set, key_generated, erased, reactivate_checks, reactivated}
 use Rattle.rules.specs.MoreQuestions.{block_locked}
 use Rattle.rules.specs.Questions.{controlling_row, key_or}
-use Rattle.rules.specs.Rows.{blank, no_row, row, locked_for, locked, lock_enabled, relocked, is_free, with_serial, with_range, with_kind, with_flags, anew, unit_row_of, range_row_of, range_over, suits, lowest_row, is_there, lowest_free, free_of, is_free_there, row_under, any_row, each_row_by}
+use Rattle.rules.specs.Rows.{blank, no_row, row, locked_for, locked, lock_enabled, relocked, is_free, with_serial, with_range, with_kind, with_flags, anew, unit_row_of, range_row_of, range_over, suits, lowest_row, is_there, is_free_there, row_under, any_row}
 use Rattle.rules.specs.Sessions.{owner, or_else, opening_refusal}
 use Rattle.rules.specs.Sound.{Sound, is_global}
 use Rattle.rules.specs.Units.{no_unit, exists, unit, with_unit, without_unit}
 use Rattle.rules.proofs.Accepted.{create_checks, Passed, all-passed, else-none}
-use Rattle.rules.proofs.Alike.{Alike, bare, alike-renewed, alike-control}
+use Rattle.rules.proofs.Alike.{Alike, alike-renewed, alike-control}
 use Rattle.rules.proofs.Blocks.{key-is, control-is, control-other, control-global, key-new, key-given, renewed-key, under-global}
 use Rattle.rules.proofs.Lookups.{lookup-insert, lookup-remove, has-remove-other, has-remove-same}
 use Rattle.rules.proofs.Renewals.{range-parts, rekeyed_row}
 use Rattle.rules.proofs.RowsKept.{within, in_table, not-row-0, none-at, no_other, any_none, unit-row-there}
 use Rattle.rules.proofs.Searches.{found-is, nowhere, written, unwritten, set-alike, lowest-as, control-as, first-same}
-use Rattle.rules.proofs.Selections.{map-alike, row-map, length-each, each-alike}
+use Rattle.rules.proofs.Selections.{map-alike, row-map}
 use Rattle.rules.proofs.Sounds.{take-free}
 use Rattle.rules.proofs.Steps.{left-kept}
 

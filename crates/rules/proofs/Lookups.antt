@@ -1,12 +1,12 @@
 -- Elements that have a number each: what is found after one is put in, taken out or changed.
-use Rattle.std.proofs.Common.{◌≡◌, ℕ, zero, suc, ◌+◌, ◌<◌, ◌≤◌, Bool, true, false, cond, ◌&&◌, ◌||◌, eqb, ltb, leb, ◌≢◌, ◌⊎◌, List, [], ◌∷◌, length, get_or, set, is_some, Some, None, Option, unwrap_or, sym, refl, ap, ◌∙◌, subst, inl, inr, arith}
+use Rattle.std.proofs.Common.{◌≡◌, ℕ, suc, ◌<◌, Bool, true, false, cond, ◌&&◌, ◌||◌, eqb, ltb, leb, ◌≢◌, List, [], ◌∷◌, length, get_or, set, Some, None, unwrap_or, sym, refl, ap, ◌∙◌, inl, inr, arith}
 use Rattle.std.proofs.lemmas.Bool.Decides.{nat_tests}
-use Rattle.std.proofs.lemmas.Bool.{cases_Bool, both_ways, eqb-true, ne_eqb, true≢false, cond-true, cond-false}
+use Rattle.std.proofs.lemmas.Bool.{both_ways, eqb-true, true≢false}
 use Rattle.std.specs.Option.{option_map}
 use Rattle.std.specs.List.{AllByRecursion as All}
 use Rattle.packed.specs.First.{first}
 use Rattle.packed.specs.Rising.{rises, has, lookup, insert, remove, change}
-use Rattle.packed.proofs.Order.{has-absent, rises-lower}
+use Rattle.packed.proofs.Order.{has-absent}
 use Rattle.packed.proofs.Search.{when-found}
 use Rattle.rules.proofs.Searches.{cases-option}
 

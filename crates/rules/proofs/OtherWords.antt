@@ -1,11 +1,10 @@
 -- What some of the definitions come to, in other words.
-use Rattle.std.proofs.Common.{◌≡◌, ℕ, zero, suc, ◌+◌, ◌-◌, ◌/◌, ◌%◌, ◌^◌, ◌<◌, ◌≤◌, min, max, Bool, true, false, cond, not, ◌||◌, eqb, ltb, leb, ◌⊎◌, List, [], ◌∷◌, length, Some, None, filter, Option, sym, refl, ap, ◌∙◌, subst, inl, inr, div-one, add-one, arith, shr_lt}
+use Rattle.std.proofs.Common.{◌≡◌, ℕ, zero, suc, ◌+◌, ◌/◌, ◌%◌, ◌^◌, ◌<◌, ◌≤◌, max, Bool, true, false, cond, not, ◌||◌, eqb, ltb, leb, List, [], ◌∷◌, length, Some, None, filter, Option, sym, refl, ap, ◌∙◌, subst, inl, inr, div-one, add-one, arith, shr_lt}
 use native.Mathlib.Nat.{div-div-eq-div-mul, pow-succ'}
 use lib.Count.{ones, ones_in, ones_step}
 use Rattle.std.proofs.lemmas.Bool.Decides.{nat_tests}
 use Rattle.std.proofs.lemmas.Bool.{cases_eq, leb-false, eqb-true, eqb-false, or_parts}
 use Rattle.vault.specs.Checks.{first_of, unless}
-use Rattle.rules.specs.declared.access.Access.{Access}
 use Rattle.rules.specs.declared.call.Answer.TheVariants.{SingleUserRows}
 use Rattle.rules.specs.declared.call.Call.{Call}
 use Rattle.rules.specs.declared.call.Call.TheVariants.{Reactivate}
@@ -16,9 +15,9 @@ use Rattle.rules.specs.declared.row.Standing.TheVariants.{Shared, SingleUser}
 use Rattle.rules.specs.Calls.{refusal, after, answer, refused_or}
 use Rattle.rules.specs.Drive.{Drive}
 use Rattle.rules.specs.Laws.{point}
-use Rattle.rules.specs.Meanings.{SharingIsACommonBlock, FirstLocked, DeniedAtFirstLockedBlock, GrantedWhereNoneLocked, single_user_rows, ReactivateCountsRows}
+use Rattle.rules.specs.Meanings.{SharingIsACommonBlock, DeniedAtFirstLockedBlock, GrantedWhereNoneLocked, single_user_rows, ReactivateCountsRows}
 use Rattle.rules.specs.Methods.{reactivate_checks, selected, reactivated_row, reactivated}
-use Rattle.rules.specs.MoreQuestions.{block_locked, first_from, denied_at, access_refusal}
+use Rattle.rules.specs.MoreQuestions.{block_locked, first_from, denied_at}
 use Rattle.rules.specs.Questions.{controlling_row}
 use Rattle.rules.specs.Rows.{blank, is_single_user, each_row_by}
 use Rattle.rules.specs.Sessions.{or_else, opening_refusal}

@@ -1,9 +1,8 @@
 -- What follows of a drive that a sheet can describe: its ranges and its keys.
-use Rattle.std.proofs.Common.{◌≡◌, ℕ, zero, suc, ◌+◌, ◌-◌, ◌<◌, ◌≤◌, Bool, true, false, cond, not, ◌&&◌, ◌||◌, eqb, ltb, leb, ◌⊎◌, List, [], ◌∷◌, ◌++◌, map, length, filter, sym, refl, ap, ◌∙◌, subst, inl, inr, arith}
+use Rattle.std.proofs.Common.{◌≡◌, ℕ, suc, ◌+◌, true, cond, eqb, ltb, List, [], ◌∷◌, ◌++◌, map, length, filter, sym, refl, ap, ◌∙◌, arith}
 use Rattle.std.proofs.lemmas.Bool.Decides.{nat_tests}
-use Rattle.std.proofs.lemmas.Bool.{cases_Bool, both_ways, and_parts, and_from, eq-eqb, leb-true, ltb-true}
+use Rattle.std.proofs.lemmas.Bool.{and_parts, and_from, eq-eqb, leb-true}
 use Rattle.std.specs.List.{AllByRecursion as All}
-use Rattle.packed.specs.Rising.{insert}
 use Rattle.packed.proofs.Order.{length-insert}
 use Rattle.vault.proofs.Requests.{room}
 use Rattle.vault.specs.Serials.{adds, collect}
@@ -11,15 +10,15 @@ use Rattle.rules.specs.declared.numbering.Bounds.{Bounds}
 use Rattle.rules.specs.declared.row.Kind.{Kind}
 use Rattle.rules.specs.declared.row.Kind.TheVariants.{Free, Global, UnitRow, RangeRow}
 use Rattle.rules.specs.declared.row.Row.{Row}
-use Rattle.rules.specs.declared.row.Sought.TheVariants.{UnitRowOf, RangeOver}
+use Rattle.rules.specs.declared.row.Sought.TheVariants.{UnitRowOf}
 use Rattle.rules.specs.declared.unit.LogicalUnit.{LogicalUnit}
-use Rattle.rules.specs.Drive.{Drive, unused_keys}
+use Rattle.rules.specs.Drive.{Drive}
 use Rattle.rules.specs.Laws.{RangesInOrder, OneKeyEach, range_rows}
 use Rattle.rules.specs.Methods.{kind_of}
 use Rattle.rules.specs.Questions.{key_or}
-use Rattle.rules.specs.Rows.{row, is_range_row, covers, unit_row_of, range_over, is_there}
-use Rattle.rules.specs.Sound.{Sound, unit_fits, row_fits, serial_of, row_key, serials}
-use Rattle.rules.specs.Units.{valid, exists, unit}
+use Rattle.rules.specs.Rows.{row, is_range_row, covers, unit_row_of, range_over}
+use Rattle.rules.specs.Sound.{Sound, unit_fits, row_fits, serial_of, row_key}
+use Rattle.rules.specs.Units.{valid}
 use Rattle.rules.proofs.Blocks.{unit-row-is}
 use Rattle.rules.proofs.RowsKept.{fits-exists, fits_under, fits-inside, fits-key}
 use Rattle.rules.proofs.Searches.{at_there}

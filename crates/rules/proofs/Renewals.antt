@@ -1,16 +1,16 @@
 -- Fresh keys: a drive stays in order, and the vault refuses nothing.
-use Rattle.std.proofs.Common.{◌≡◌, ℕ, zero, suc, ◌+◌, ◌<◌, ◌≤◌, Bool, true, false, cond, not, ◌&&◌, ◌||◌, eqb, ltb, leb, ◌≢◌, ◌⊎◌, List, [], ◌∷◌, map, length, get_or, set, is_some, Some, None, filter, Option, unwrap_or, sym, refl, ap, ◌∙◌, subst, inl, inr, arith}
+use Rattle.std.proofs.Common.{◌≡◌, ℕ, suc, ◌+◌, ◌<◌, ◌≤◌, Bool, true, false, cond, not, ◌&&◌, ◌||◌, eqb, ltb, List, [], ◌∷◌, map, length, get_or, set, Some, None, filter, Option, unwrap_or, sym, refl, ap, ◌∙◌, arith}
 use Rattle.std.proofs.ByRecursion.{All-weaker, All-map, all_kept_by}
 use Rattle.std.proofs.lemmas.List.{length-set}
 use Rattle.std.proofs.lemmas.Bool.Decides.{nat_tests}
-use Rattle.std.proofs.lemmas.Bool.{cases_Bool, cases_eq, both_ways, and_parts, and_from, ltb-true, lt-ltb, true≢false, not-true}
+use Rattle.std.proofs.lemmas.Bool.{and_parts, and_from, ltb-true, lt-ltb, true≢false}
 use Rattle.std.specs.Option.{option_map}
 use Rattle.std.specs.List.{AllByRecursion as All}
 use Rattle.packed.specs.Rising.{has, lookup}
 use Rattle.packed.proofs.Order.{lookup-found}
 use Rattle.packed.proofs.Search.{found_within}
 use Rattle.vault.specs.Kinds.{can_be_capacity}
-use Rattle.vault.specs.Meaning.{Meaning, swap_refusal, swap_after}
+use Rattle.vault.specs.Meaning.{swap_refusal, swap_after}
 use Rattle.rules.specs.declared.row.Kind.{Kind}
 use Rattle.rules.specs.declared.row.Kind.TheVariants.{Free, Global, UnitRow, RangeRow}
 use Rattle.rules.specs.declared.row.Row.{Row}
@@ -23,8 +23,8 @@ use Rattle.rules.specs.Drive.{Drive}
 use Rattle.rules.specs.FreshKeys.{HasKey, key_of, fresh_key, fresh_keys, units_under_global, holders_of, unit_and_ranges}
 use Rattle.rules.specs.Requests.{NoneRefused, swaps}
 use Rattle.rules.specs.Questions.{key_or}
-use Rattle.rules.specs.Rows.{no_row, row, is_free, is_range_row, is_single_user, with_serial, with_kind, unit_row_of, range_row_of, range_over, suits, is_there, all_rows, any_row}
-use Rattle.rules.specs.Sound.{Sound, SoundUnits, SoundRows, SoundKeys, unit_fits, is_global, policy_fits, row_fits, serials, row_key}
+use Rattle.rules.specs.Rows.{row, is_free, is_range_row, is_single_user, with_serial, with_kind, unit_row_of, range_row_of, range_over, suits, is_there, all_rows}
+use Rattle.rules.specs.Sound.{Sound, SoundUnits, unit_fits, is_global, row_fits, serials}
 use Rattle.rules.specs.Units.{no_unit, valid, exists, unit, with_key}
 use Rattle.rules.proofs.Keys.{keys-as, swap-capacity, swap-done, swap-keys}
 use Rattle.rules.proofs.Lookups.{place_of, change-found, lookup-change, has-change, rises-change, length-change, all-change, all_lookup}

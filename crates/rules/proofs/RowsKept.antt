@@ -1,20 +1,18 @@
 -- When the rows are still in order.
-use Rattle.std.proofs.Common.{◌≡◌, ℕ, zero, suc, ◌+◌, ◌-◌, ◌<◌, ◌≤◌, min, max, Bool, true, false, cond, not, ◌&&◌, ◌||◌, eqb, ltb, leb, ◌≢◌, ◌⊎◌, List, [], ◌∷◌, length, get_or, set, is_some, sym, refl, ap, ◌∙◌, subst, inl, inr, arith}
+use Rattle.std.proofs.Common.{◌≡◌, ℕ, zero, suc, ◌+◌, ◌<◌, Bool, true, false, ◌&&◌, ◌||◌, eqb, ltb, leb, ◌≢◌, List, [], ◌∷◌, length, set, is_some, sym, refl, ap, ◌∙◌, inl, inr, arith}
 use Rattle.std.proofs.lemmas.Bool.Decides.{nat_tests}
 use Rattle.std.proofs.lemmas.List.{length-set, get_or_past}
-use Rattle.std.proofs.lemmas.Bool.{cases_Bool, cases_eq, cases_lt, both_ways, and_parts, and_from, eqb-true, ne_eqb, true≢false}
-use Rattle.rules.specs.declared.row.Flags.{Flags}
+use Rattle.std.proofs.lemmas.Bool.{cases_Bool, cases_lt, both_ways, and_parts, and_from, eqb-true, true≢false}
 use Rattle.rules.specs.declared.row.Kind.{Kind}
 use Rattle.rules.specs.declared.row.Kind.TheVariants.{Free, Global, UnitRow, RangeRow}
 use Rattle.rules.specs.declared.row.Row.{Row}
 use Rattle.rules.specs.declared.row.Sought.{Sought}
-use Rattle.rules.specs.declared.row.Sought.TheVariants.{UnitRowOf, RangeRowOf, RangeOver, RangeSharing}
+use Rattle.rules.specs.declared.row.Sought.TheVariants.{UnitRowOf, RangeOver}
 use Rattle.rules.specs.declared.unit.LogicalUnit.{LogicalUnit}
-use Rattle.rules.specs.Questions.{key_or}
-use Rattle.rules.specs.Rows.{blank, no_row, row, is_free, is_range_row, covers, shares, unit_row_of, range_over, range_sharing, suits, lowest_row, is_there, any_row}
+use Rattle.rules.specs.Rows.{blank, no_row, row, is_free, covers, unit_row_of, range_over, range_sharing, suits, lowest_row, is_there, any_row}
 use Rattle.rules.specs.Sound.{SoundRows, AtMostOne, is_global, row_fits}
 use Rattle.rules.specs.Units.{exists, unit}
-use Rattle.rules.proofs.Searches.{first-same, missed, not_there, there, there-kept, one_kept, each_row, written, unwritten}
+use Rattle.rules.proofs.Searches.{first-same, missed, not_there, there, there-kept, one_kept, each_row, unwritten}
 
 -- ---- a test of every row
 pub any_same : (test : Row → Bool) (xs ys : List Row) → length xs ≡ length ys → ((i : ℕ) → test (row i xs) ≡ test (row i ys)) → any_row test xs ≡ any_row test ys

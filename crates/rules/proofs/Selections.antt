@@ -1,10 +1,10 @@
 -- Rows made by their numbers, and the bits of a selection.
-use Rattle.std.proofs.Common.{◌≡◌, ℕ, zero, suc, ◌+◌, ◌*◌, ◌/◌, ◌%◌, ◌^◌, ◌<◌, ◌≤◌, Bool, true, false, eqb, ◌≢◌, ◌⊎◌, List, [], ◌∷◌, map, length, sym, refl, ap, ◌∙◌, inl, inr, div-one, add-one, arith, shr_lt}
+use Rattle.std.proofs.Common.{◌≡◌, ℕ, zero, suc, ◌/◌, ◌%◌, ◌^◌, ◌<◌, true, eqb, ◌≢◌, List, [], ◌∷◌, map, length, sym, refl, ap, ◌∙◌, inl, inr, div-one, add-one, arith, shr_lt}
 use native.Mathlib.Nat.{div-div-eq-div-mul, pow-succ'}
-use Rattle.std.proofs.lemmas.Bool.{cases_Bool, eq-eqb, eqb-false}
+use Rattle.std.proofs.lemmas.Bool.{cases_Bool, eqb-false}
 use Rattle.rules.specs.declared.row.Row.{Row}
 use Rattle.rules.specs.Methods.{selected}
-use Rattle.rules.specs.Rows.{no_row, row, each_row_by}
+use Rattle.rules.specs.Rows.{row, each_row_by}
 
 pub length-each : (make : ℕ → Row → Row) (rows : List Row) → length (each_row_by make rows) ≡ length rows
 unfolding each_row_by

@@ -1,39 +1,35 @@
 -- Every call leaves a drive that a sheet can describe, and the vault refuses none of its requests.
-use Rattle.std.proofs.Common.{◌≡◌, ℕ, zero, suc, ◌+◌, ◌-◌, ◌/◌, ◌%◌, ◌^◌, ◌<◌, ◌≤◌, Bool, true, false, cond, not, ◌&&◌, ◌||◌, eqb, ltb, leb, ◌≢◌, ◌⊎◌, List, [], ◌∷◌, ◌++◌, map, length, get_or, set, replicate, is_some, Some, None, Option, unwrap_or, sym, refl, ap, ◌∙◌, subst, inl, inr, arith}
+use Rattle.std.proofs.Common.{◌≡◌, ℕ, suc, ◌+◌, ◌^◌, ◌<◌, Bool, true, false, cond, not, ◌&&◌, ◌||◌, eqb, ltb, leb, ◌≢◌, List, [], ◌∷◌, ◌++◌, map, length, get_or, set, Some, None, Option, unwrap_or, sym, refl, ap, ◌∙◌, inl, inr, arith}
 use Rattle.std.proofs.lemmas.List.{length-set, length-map, set-get_or, get_or_past}
 use Rattle.std.proofs.lemmas.Bool.Decides.{nat_tests}
-use Rattle.std.proofs.lemmas.Bool.{cases_Bool, cases_eq, cases_lt, both_ways, and_parts, and_from, ltb-true, ltb-false, leb-true, leb-false, lt-ltb, le-leb, eqb-true, eqb-false, true≢false, not-true, not-false, or_parts}
-use Rattle.packed.specs.Rising.{rises, has, insert, lookup}
-use Rattle.packed.proofs.Order.{has-insert, has-lookup, length-insert, length-remove, rises-insert, rises-remove}
+use Rattle.std.proofs.lemmas.Bool.{cases_Bool, cases_lt, both_ways, and_parts, and_from, ltb-true, ltb-false, leb-false, lt-ltb, le-leb, eqb-true, eqb-false, not-false}
+use Rattle.packed.specs.Rising.{lookup}
+use Rattle.packed.proofs.Order.{has-insert, length-insert, length-remove, rises-insert, rises-remove}
 use Rattle.vault.specs.Kinds.{can_be_capacity}
-use Rattle.vault.specs.Meaning.{Meaning, put_after, drop_after}
 use Rattle.vault.specs.Serials.{adds, collect}
-use Rattle.rules.specs.declared.cause.Cause.{Cause}
 use Rattle.rules.specs.declared.row.Flags.{Flags}
 use Rattle.rules.specs.declared.row.Kind.{Kind}
 use Rattle.rules.specs.declared.row.Kind.TheVariants.{Free, Global, UnitRow, RangeRow}
 use Rattle.rules.specs.declared.row.Row.{Row}
-use Rattle.rules.specs.declared.row.Sought.{Sought}
-use Rattle.rules.specs.declared.row.Sought.TheVariants.{UnitRowOf, RangeRowOf, RangeOver, RangeSharing}
+use Rattle.rules.specs.declared.row.Sought.TheVariants.{UnitRowOf, RangeRowOf, RangeSharing}
 use Rattle.rules.specs.declared.row.Standing.{Standing}
 use Rattle.rules.specs.declared.row.Standing.TheVariants.{Shared, SingleUser}
 use Rattle.rules.specs.declared.unit.Holder.TheVariants.{TheUnit}
 use Rattle.rules.specs.declared.unit.LogicalUnit.{LogicalUnit}
-use Rattle.rules.specs.Commands.{create_refusal, created, new_unit, delete_refusal, deleted, format_refusal, formatted, was_reset}
-use Rattle.rules.specs.Drive.{Drive, with_rows, with_policy, with_units, with_vault, spent, unused_keys}
-use Rattle.rules.specs.FreshKeys.{fresh_keys, holders_of, unit_and_ranges}
-use Rattle.rules.specs.Methods.{row_of, kind_of, assign_refusal, row_to_take, taken, unit_row_assigned, range_row_assigned, assigned, deassign_refusal, freed, given_up, deassigned, set_range_refusal, range_set, ends_past, shares_with_other, set_locks_refusal, locks_set, gen_key_refusal, key_generated, erase_refusal, erased, range_rows_remain, reactivated_row, reactivated}
-use Rattle.rules.specs.Requests.{Request, Put, Drop, NoneRefused, requests_of_deassign, swaps}
+use Rattle.rules.specs.Commands.{create_refusal, created, new_unit, delete_refusal, deleted, formatted, was_reset}
+use Rattle.rules.specs.Drive.{Drive, with_rows, with_policy, unused_keys}
+use Rattle.rules.specs.FreshKeys.{holders_of, unit_and_ranges}
+use Rattle.rules.specs.Methods.{row_of, kind_of, row_to_take, taken, unit_row_assigned, range_row_assigned, freed, given_up, range_set, locks_set, key_generated, range_rows_remain, reactivated_row, reactivated}
+use Rattle.rules.specs.Requests.{Put, Drop, NoneRefused, requests_of_deassign, swaps}
 use Rattle.rules.specs.Questions.{key_or}
-use Rattle.rules.specs.Rows.{blank, no_row, row, is_free, is_a_unit_row, is_range_row, covers, each_row_by, is_single_user, relocked, with_kind, with_flags, with_range, anew, same_standing, unit_row_of, range_row_of, range_over, range_sharing, suits, lowest_row, is_there, lowest_free, free_of, is_free_there, any_row}
-use Rattle.rules.specs.Sound.{Sound, SoundUnits, SoundRows, SoundKeys, unit_fits, row_fits, is_global, policy_fits, serial_of, row_key, serials}
+use Rattle.rules.specs.Rows.{blank, no_row, row, is_free, is_a_unit_row, covers, each_row_by, is_single_user, relocked, with_kind, with_flags, with_range, anew, unit_row_of, range_row_of, range_over, is_there, is_free_there, any_row}
+use Rattle.rules.specs.Sound.{Sound, SoundRows, unit_fits, row_fits, is_global, policy_fits, serial_of, row_key, serials}
 use Rattle.rules.specs.Units.{no_unit, valid, exists, unit, with_unit, without_unit}
 use Rattle.rules.proofs.Accepted.{create_checks, delete_checks, all-passed}
-use Rattle.rules.proofs.Alike.{alike-renewed, alike-free}
 use Rattle.rules.proofs.Keys.{keys-as, put-capacity, drop-capacity, put-done, put-keys, drop-done, drop-keys, collect-unit, collect-without, filled, cleared}
 use Rattle.rules.proofs.Lookups.{lookup-insert, lookup-remove, has-remove-other, all_insert, all_remove}
-use Rattle.rules.proofs.Renewals.{unit-key, renewed-sound, valid-of-row, valid-of-unit, range-parts}
-use Rattle.rules.proofs.RowsKept.{any_same, any_at, within, in_table, none-at, kind-free, over-apart, fits-exists, fits_under, fits-inside, fits-key, rows-unit-row, rows-range, rows-free, rows_alike, rows-units}
+use Rattle.rules.proofs.Renewals.{unit-key, renewed-sound, valid-of-row, valid-of-unit}
+use Rattle.rules.proofs.RowsKept.{any_same, any_at, within, in_table, none-at, kind-free, over-apart, fits-exists, fits_under, fits-key, rows-unit-row, rows-range, rows-free, rows_alike, rows-units}
 use Rattle.rules.proofs.Searches.{missed, not_there, at-free, set-alike, unwritten, each_row}
 use Rattle.rules.proofs.Selections.{length-each, row-each, each-alike, map-alike, row-map, some-bit}
 use Rattle.rules.proofs.Words.{words_long, row_word, row_written}

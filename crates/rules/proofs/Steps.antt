@@ -1,28 +1,23 @@
 -- One call, of any kind: what it keeps.
-use Rattle.std.proofs.Common.{◌≡◌, ℕ, zero, suc, ◌+◌, ◌^◌, ◌<◌, ◌≤◌, Bool, true, false, cond, not, ◌&&◌, ◌||◌, eqb, ltb, leb, List, [], ◌∷◌, length, Some, None, Option, sym, refl, ap, ◌∙◌, subst, inl, inr, arith}
-use Rattle.std.proofs.lemmas.Bool.{cases_Bool, cond-true, cond-false, not-false, or_parts}
-use Rattle.vault.specs.Checks.{first_of, unless}
-use Rattle.vault.specs.Meaning.{Meaning}
-use Rattle.rules.specs.declared.call.Answer.{Answer}
-use Rattle.rules.specs.declared.call.Answer.TheVariants.{Success, Refused}
+use Rattle.std.proofs.Common.{◌≡◌, ℕ, ◌^◌, Bool, true, false, cond, ltb, leb, List, [], ◌∷◌, Some, None, Option, sym, refl, ◌∙◌, subst, inl, inr}
+use Rattle.std.proofs.lemmas.Bool.{cases_Bool, not-false, or_parts}
+use Rattle.vault.specs.Checks.{unless}
 use Rattle.rules.specs.declared.call.Call.{Call}
 use Rattle.rules.specs.declared.call.Call.TheVariants.{Assign, Deassign, SetRange, SetLocks, GenKey, Erase, Reactivate, Create, Delete, Format, Reset}
 use Rattle.rules.specs.declared.cause.Cause.{Cause}
-use Rattle.rules.specs.declared.cause.Cause.TheVariants.{CallerNotAllowed, NoSuchUnit, Closed}
-use Rattle.rules.specs.declared.row.Kind.{Kind}
-use Rattle.rules.specs.declared.row.Kind.TheVariants.{Free, Global, UnitRow, RangeRow}
-use Rattle.rules.specs.declared.row.Sought.TheVariants.{UnitRowOf, RangeSharing}
+use Rattle.rules.specs.declared.row.Kind.TheVariants.{RangeRow}
+use Rattle.rules.specs.declared.row.Sought.TheVariants.{UnitRowOf}
 use Rattle.rules.specs.declared.row.Standing.{Standing}
-use Rattle.rules.specs.Calls.{refusal, left, said, after, answer, refused_or}
+use Rattle.rules.specs.Calls.{refusal, left, after}
 use Rattle.rules.specs.Commands.{format_checks}
-use Rattle.rules.specs.Drive.{Drive, unused_keys, run_out}
-use Rattle.rules.specs.FreshKeys.{holders_of, unit_and_ranges}
+use Rattle.rules.specs.Drive.{Drive}
+use Rattle.rules.specs.FreshKeys.{holders_of}
 use Rattle.rules.specs.Methods.{kind_of, assign_checks, assign_refusal, unit_row_checks, range_row_checks, unit_row_assigned, range_row_assigned, assigned, deassign_checks, set_range_checks, set_range_refusal, range_set, ends_past, shares_with_other, set_locks_checks, gen_key_checks, key_generated, erase_checks, reactivate_checks}
 use Rattle.rules.specs.Requests.{Request, Put, NoneRefused, requests}
 use Rattle.rules.specs.Rows.{blank, is_there}
-use Rattle.rules.specs.Sessions.{admins, is_not, or_else, opening_refusal}
+use Rattle.rules.specs.Sessions.{opening_refusal}
 use Rattle.rules.specs.Sound.{Sound}
-use Rattle.rules.specs.Units.{exists, unit}
+use Rattle.rules.specs.Units.{exists}
 use Rattle.rules.proofs.Accepted.{Passed, all-passed, else-none}
 use Rattle.rules.proofs.Alike.{alike-renewed, alike-free}
 use Rattle.rules.proofs.Renewals.{range-parts}

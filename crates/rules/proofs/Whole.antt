@@ -1,5 +1,5 @@
 -- The laws over runs, from those of one call.
-use Rattle.std.proofs.Common.{◌≡◌, ℕ, suc, ◌+◌, ◌<◌, ◌≤◌, Bool, true, false, cond, not, ◌||◌, eqb, ◌⊎◌, List, [], ◌∷◌, length, Some, None, Option, sym, refl, ap, ◌∙◌, subst, inl, inr, ⊎_elim, arith}
+use Rattle.std.proofs.Common.{◌≡◌, ℕ, suc, ◌+◌, ◌<◌, ◌≤◌, Bool, true, false, cond, not, List, [], ◌∷◌, length, Some, None, Option, sym, refl, ap, ◌∙◌, subst, inl, inr, ⊎_elim, arith}
 use Rattle.std.proofs.lemmas.Bool.Decides.{nat_tests}
 use Rattle.std.proofs.lemmas.Bool.{both_ways, or_right, or_from, true≢false}
 use Rattle.std.specs.List.{AllByRecursion as All}
@@ -8,7 +8,6 @@ use Rattle.vault.specs.Checks.{unless}
 use Rattle.vault.specs.declared.refusal.VaultRefusal.{VaultRefusal}
 use Rattle.vault.specs.Meaning.{Meaning, with_held, put_refusal, swap_refusal, drop_refusal}
 use Rattle.vault.specs.Serials.{holds, adds, drops}
-use Rattle.rules.specs.declared.access.Access.{Access}
 use Rattle.rules.specs.declared.call.Answer.{Answer}
 use Rattle.rules.specs.declared.call.Answer.TheVariants.{Success, Refused}
 use Rattle.rules.specs.declared.call.Call.{Call}
@@ -21,7 +20,7 @@ use Rattle.rules.specs.declared.unit.Holder.{Holder}
 use Rattle.rules.specs.declared.unit.Holder.TheVariants.{TheUnit, TheRow}
 use Rattle.rules.specs.Calls.{refusal, left, said, after, answer, refused_or, is_accepted}
 use Rattle.rules.specs.Drive.{Drive}
-use Rattle.rules.specs.FreshKeys.{fresh_key, fresh_keys, holders_of, unit_and_ranges}
+use Rattle.rules.specs.FreshKeys.{fresh_key, holders_of, unit_and_ranges}
 use Rattle.rules.specs.Laws.{Begins, point, call_at, answered_at, has_block, holds_key, FreshlyKeyed, SetByOwner, StaysSound, AlwaysRangesInOrder, AlwaysOneKeyEach, NoRequestRefused, NoKeyReturns, OpenedByOwnerOrFreshKey, RefusedChangesNothing}
 use Rattle.rules.specs.Methods.{kind_of, unit_row_assigned, range_row_assigned, given_up, freed}
 use Rattle.rules.specs.MoreQuestions.{block_locked}

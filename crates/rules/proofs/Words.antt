@@ -1,5 +1,5 @@
 -- The serials of the units and of the rows, as one list of words.
-use Rattle.std.proofs.Common.{◌≡◌, ℕ, ◌+◌, ◌-◌, ◌<◌, ◌≤◌, List, ◌++◌, map, length, get_or, set, sym, refl, ap, ◌∙◌, arith}
+use Rattle.std.proofs.Common.{◌≡◌, ℕ, ◌+◌, ◌-◌, ◌<◌, List, ◌++◌, map, length, get_or, set, sym, ap, ◌∙◌, arith}
 use Rattle.std.proofs.lemmas.List.{length-map, length-append, map-set, set-append_left, set-append_right, get_or_append_left, get_or-append_right, get_or-map}
 use Rattle.rules.specs.declared.row.Row.{Row}
 use Rattle.rules.specs.declared.unit.LogicalUnit.{LogicalUnit}

@@ -10,7 +10,6 @@ use Rattle.rules.specs.declared.call.Call.TheVariants.{SetLocks, Reset}
 use Rattle.rules.specs.declared.cause.Cause.{Cause}
 use Rattle.rules.specs.declared.row.Flags.{Flags}
 use Rattle.rules.specs.declared.row.Kind.TheVariants.{UnitRow, RangeRow}
-use Rattle.rules.specs.declared.row.Row.{Row}
 use Rattle.rules.specs.Calls.{after, answer, is_accepted}
 use Rattle.rules.specs.Drive.{Drive, unused_keys}
 use Rattle.rules.specs.LayingOut.{fresh_refusal, fresh}

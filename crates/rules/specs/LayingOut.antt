@@ -1,5 +1,5 @@
 -- Laying a table out blank.
-use Rattle.std.specs.Prelude.{ℕ, Bool, not, List, [], ◌∷◌, length, replicate, is_some, Option, Result, nat_lt}
+use Rattle.std.specs.Prelude.{not, [], ◌∷◌, length, replicate, is_some, Option, Result, nat_lt}
 use Rattle.vault.specs.Checks.{first_of, answer}
 use Rattle.vault.specs.Kinds.{can_be_capacity}
 use Rattle.vault.specs.Meaning.{Meaning}

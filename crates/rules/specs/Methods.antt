@@ -1,5 +1,5 @@
 -- The methods, through a writing session of a caller: for each its checks in their order, what it leaves, and what it answers.
-use Rattle.std.specs.Prelude.{ℕ, ◌+◌, ◌/◌, ◌%◌, ◌^◌, Bool, true, false, cond, not, ◌&&◌, ◌||◌, List, [], ◌∷◌, length, Option, Result, ◌==◌, count_ones, nat_le, nat_lt}
+use Rattle.std.specs.Prelude.{ℕ, ◌+◌, ◌/◌, ◌%◌, ◌^◌, Bool, false, cond, not, ◌&&◌, ◌||◌, List, [], ◌∷◌, length, Option, Result, ◌==◌, count_ones, nat_le, nat_lt}
 use Rattle.std.specs.Option.{unwrap_or}
 use Rattle.vault.specs.Checks.{first_of, answer, unless}
 use Rattle.vault.specs.Meaning.{put_after, drop_after}

@@ -1,5 +1,5 @@
 -- Access and ReadRow, which change nothing either.
-use Rattle.std.specs.Prelude.{ℕ, zero, suc, ◌+◌, Bool, true, false, cond, not, ◌||◌, List, [], ◌∷◌, Some, None, Option, Result, ◌==◌, nat_lt}
+use Rattle.std.specs.Prelude.{ℕ, zero, suc, ◌+◌, Bool, cond, not, ◌||◌, List, [], ◌∷◌, Some, None, Option, Result, ◌==◌, nat_lt}
 use Rattle.vault.specs.Checks.{first_of, answer}
 use Rattle.rules.specs.declared.access.Access.{Access}
 use Rattle.rules.specs.declared.cause.Cause.{Cause}
@@ -9,7 +9,6 @@ use Rattle.rules.specs.declared.row.Kind.{Kind}
 use Rattle.rules.specs.declared.row.Kind.TheVariants.{Free, Global, UnitRow, RangeRow}
 use Rattle.rules.specs.declared.row.Row.{Row}
 use Rattle.rules.specs.declared.row.RowFields.{RowFields}
-use Rattle.rules.specs.declared.unit.LogicalUnit.{LogicalUnit}
 use Rattle.rules.specs.Commands.{Done}
 use Rattle.rules.specs.Drive.{Drive}
 use Rattle.rules.specs.Questions.{controlling_row, key_or}

@@ -1,5 +1,5 @@
 -- Callers, the sessions that they open, and who owns a row.
-use Rattle.std.specs.Prelude.{ℕ, ◌+◌, Bool, cond, not, List, [], ◌∷◌, Some, None, Option, ◌==◌, nat_lt}
+use Rattle.std.specs.Prelude.{ℕ, ◌+◌, Bool, cond, not, [], ◌∷◌, Some, None, Option, ◌==◌, nat_lt}
 use Rattle.vault.specs.Checks.{first_of}
 use Rattle.rules.specs.declared.cause.Cause.{Cause}
 use Rattle.rules.specs.declared.cause.Cause.TheVariants.{OutOfBounds}

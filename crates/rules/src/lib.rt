@@ -1,4 +1,6 @@
 //! What a reader must believe: the types of the subject, and in specs/ the definition of every call and the laws over runs.
+#![tactic(auto)]
+
 pub mod access;
 pub mod call;
 pub mod cause;

@@ -87,7 +87,7 @@ impl Numbering for Scsi {
 
 /// Whether the numbering gives this number to units.
 pub fn is_valid<N: Numbering>(number: u32) -> bool
-    ensures { result ≡ valid bounds number }
+    ensures { result ≡ valid N.bounds number }
 {
     let b = N::bounds_of();
     b.first <= number && number <= b.last

@@ -1,4 +1,6 @@
 //! The rehearsal script: text in, the layout and the calls out.
+#![tactic(auto)]
+
 pub mod calls;
 pub mod fault;
 mod keywords;

@@ -1,3 +1,5 @@
 //! Scripts that are read, and scripts that are refused.
+#![tactic(auto)]
+
 #[cfg(test)]
 mod tests;

@@ -1,4 +1,6 @@
 //! One call of a script on a table: what it answers, and what it leaves.
+#![tactic(auto)]
+
 ghost use Rattle.std.specs.Prelude.{◌≡◌};
 ghost use Rattle.steps.specs.Step.{answer_to, after};
 

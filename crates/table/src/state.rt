@@ -20,7 +20,7 @@ pub struct Table<'v, V: Vault, N: Numbering> {
 
 /// Why a table can't be laid out blank over this vault.
 fn fresh_refusal<V: Vault>(vault: &V) -> Option<Cause>
-    ensures { result ≡ fresh_refusal (meaning vault.now) }
+    ensures { result ≡ fresh_refusal (V.meaning vault.now) }
 {
     let capacity = vault.capacity();
     if capacity < 1 || capacity > 64 {
@@ -34,7 +34,7 @@ fn fresh_refusal<V: Vault>(vault: &V) -> Option<Cause>
 
 /// Says whether a table can be laid out blank over this vault.
 pub fn fresh_check<V: Vault>(vault: &V) -> Result<(), Cause>
-    ensures { result ≡ fresh_check (meaning vault.now) }
+    ensures { result ≡ fresh_check (V.meaning vault.now) }
 {
     match fresh_refusal(vault) {
         Some(cause) => Err(cause),
@@ -45,7 +45,7 @@ pub fn fresh_check<V: Vault>(vault: &V) -> Result<(), Cause>
 impl<'v, V: Vault, N: Numbering> Table<'v, V, N> {
     /// Lays a table out blank; a closed one where `fresh_check` refuses.
     pub fn fresh(vault: &'v mut V, numbering: &'v N) -> Table<'v, V, N>
-        ensures model { drive result.layout result.closed bounds (meaning result.vault.now) ≡ fresh bounds (meaning vault.old) }
+        ensures model { drive result.layout result.closed N.bounds (V.meaning result.vault.now) ≡ fresh N.bounds (V.meaning vault.old) }
         ensures same { result.vault.now ≡ vault.old }
         ensures lent { result.vault.ghost_name ≡ vault.entry.ghost_name }
     {

@@ -1,5 +1,5 @@
 -- What follows where a call is refused, and where it is accepted.
-use Rattle.std.proofs.Common.{◌≡◌, Some, None, Ok, Err, Option, Result, sym, refl, ap}
+use Rattle.std.proofs.Common.{◌≡◌, Some, None, Ok, Err, Option, Result, sym, ap}
 use Rattle.vault.specs.Checks.{answer, unless}
 
 module _ {C : Type 0} (refusal : Option C) where

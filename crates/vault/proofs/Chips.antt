@@ -1,5 +1,5 @@
 -- The registers of a chip as a vault.
-use Rattle.std.proofs.Common.{◌≡◌, ℕ, ◌<◌, ◌≤◌, Bool, true, false, cond, not, ◌&&◌, eqb, ltb, leb, List, [], ◌∷◌, length, get_or, take, set, Some, None, Ok, Err, Option, sym, refl, ap, ◌∙◌, arith}
+use Rattle.std.proofs.Common.{◌≡◌, ℕ, ◌<◌, ◌≤◌, Bool, true, false, not, ◌&&◌, eqb, List, [], ◌∷◌, length, get_or, take, set, Some, None, Ok, Err, Option, refl, ap, ◌∙◌, arith}
 use lib.Seq.{take-set-lt}
 use Rattle.std.proofs.lemmas.Bool.Decides.{nat_tests}
 use Rattle.std.proofs.lemmas.Bool.{eqb-true}
@@ -12,7 +12,7 @@ use Rattle.packed.specs.Rising.{rises}
 use Rattle.packed.proofs.Search.{found_within, found-passes}
 use Rattle.packed.proofs.Order.{has-found, has-absent}
 use Rattle.vault.specs.Serials.{holds, adds, drops, collect}
-use Rattle.vault.specs.Meaning.{Meaning, Outcome, sound, with_held}
+use Rattle.vault.specs.Meaning.{Outcome, sound, with_held}
 use Rattle.vault.specs.Kinds.{chip_check, chip_meaning, fit, lowest, nothing}
 use Rattle.vault.proofs.Checks.{accepted, changed}
 use Rattle.vault.proofs.Words.{rises-collect, length-collect, holds-collect, holds-zero, collect-set, collect-clear, collect-swap}

@@ -1,5 +1,5 @@
 -- When a request is accepted, and that it then leaves a sound meaning.
-use Rattle.std.proofs.Common.{◌≡◌, ℕ, suc, ◌+◌, ◌<◌, ◌≤◌, Bool, true, false, List, length, Some, None, sym, refl, ap, ◌∙◌, arith}
+use Rattle.std.proofs.Common.{◌≡◌, ℕ, ◌<◌, ◌≤◌, true, false, length, Some, None, arith}
 use Rattle.std.proofs.lemmas.Bool.{and_parts, and_from, leb-true, le-leb, lt-leb, ne_eqb}
 use Rattle.vault.specs.declared.refusal.VaultRefusal.TheVariants.{Full}
 use Rattle.packed.proofs.Order.{rises-insert, rises-remove, length-insert, length-remove, has-remove}

@@ -1,5 +1,5 @@
 -- The two kinds of vault: what their memory means, and what stands in it after a request.
-use Rattle.std.specs.Prelude.{ℕ, Bool, true, cond, not, ◌&&◌, List, [], ◌∷◌, length, take, nat_eq, nat_le, slice_set}
+use Rattle.std.specs.Prelude.{ℕ, Bool, cond, not, ◌&&◌, List, [], ◌∷◌, length, take, nat_eq, nat_le, slice_set}
 use Rattle.std.specs.Option.{unwrap_or}
 use Rattle.packed.specs.First.{first}
 use Rattle.vault.specs.declared.refusal.VaultRefusal.TheVariants.{Unfit}

@@ -1,5 +1,5 @@
 -- What a key vault means, and what each request answers and leaves.
-use Rattle.std.specs.Prelude.{◌≡◌, ℕ, ◌≤◌, Bool, true, not, ◌&&◌, List, [], ◌∷◌, length, Option, Result, ◌==◌, nat_le}
+use Rattle.std.specs.Prelude.{ℕ, Bool, not, ◌&&◌, List, [], ◌∷◌, length, Option, Result, ◌==◌, nat_le}
 use Rattle.vault.specs.declared.refusal.VaultRefusal.{VaultRefusal}
 use Rattle.vault.specs.declared.refusal.VaultRefusal.TheVariants.{Unfit, SerialZero, AlreadyHeld, Full, NotHeld}
 use Rattle.vault.specs.Checks.{first_of, answer, unless}

@@ -1,4 +1,6 @@
 //! Key vaults: where a drive keeps its media keys, each known by its serial.
+#![tactic(auto)]
+
 ghost use Rattle.vault.specs.Meaning.{Meaning, sound, put_answer, put_after, swap_answer, swap_after, drop_answer, drop_after};
 ghost use Rattle.vault.specs.Serials.{holds};
 ghost use Rattle.std.specs.Prelude.{◌≡◌, ℕ, true, false, List, length, is_ok};

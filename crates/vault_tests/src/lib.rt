@@ -1,4 +1,6 @@
 //! Both kinds of vault, asked the same things.
+#![tactic(auto)]
+
 #[cfg(test)]
 mod tests {
     use std::process::Abort;

@@ -1,4 +1,4 @@
-use Rattle.std.proofs.Common.{◌≡◌, Some, None, sym, ap, ◌∙◌}
+use Rattle.std.proofs.Common.{Some, sym, ap, ◌∙◌}
 use Rattle.packed.proofs.Order.{lookup-found, lookup_absent, has-found, has-absent}
 use Rattle.packed.proofs.get.Goals as goal
 

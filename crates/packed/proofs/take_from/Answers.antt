@@ -1,4 +1,4 @@
-use Rattle.std.proofs.Common.{◌≡◌, ℕ, ◌-◌, ◌<◌, ◌≤◌, cond, eqb, List, length, get_or, take, Some, None, sym, refl, ap, ◌∙◌, arith}
+use Rattle.std.proofs.Common.{◌≡◌, ◌-◌, ◌<◌, eqb, take, Some, None, sym, ap, ◌∙◌, arith}
 use Rattle.std.proofs.lemmas.List.{get_or-take, length-take-le}
 use Rattle.packed.specs.First.{first}
 use Rattle.packed.proofs.Order.{lookup-found, has-found, remove-found, lookup_absent, has-absent, remove_absent}
@@ -19,7 +19,7 @@ returns-in-Some g c =
     record {
       there = sym h;
       taken = ap Some (c.index-xs-at.is ∙ sym (get_or-take len xs at c.index-xs-at.result l)) ∙ sym (lookup-found key c.args.number (take len xs) at f c.index-xs-at.result);
-      left = rw h (rotated-out xs at len l c.requires c.rotate-left.new.self c.rotate-left.ensures.after) ∙ sym (remove-found key c.args.number (take len xs) at f);
+      left = rw h (rotated-out xs at len l c.requires c.rotate_left.new.self c.rotate_left.ensures.after) ∙ sym (remove-found key c.args.number (take len xs) at f);
     }
 
 pub returns-in-None : goal.returns-in-None

@@ -1,4 +1,4 @@
-use Rattle.std.proofs.Common.{sym, refl, ◌∙◌, arith}
+use Rattle.std.proofs.Common.{sym, ◌∙◌, arith}
 use Rattle.vault.proofs.Words.{distinct-blank, distinct-fails, distinct-goes, distinct-end}
 use Rattle.vault.proofs.chip.all_distinct.Goals as goal
 use Rattle.vault.proofs.chip.all_distinct.Goals.{else-word-ne0-via-then-word-ne0+else-contains, else-word-ne0-via-else-word-ne0}

@@ -2,6 +2,6 @@ use Rattle.std.proofs.Common.{rules}
 use Rattle.packed.specs.Rising.{rises}
 use Rattle.layout.proofs.units.Units.none.Goals as goal
 
-pub invariant-of-result : goal.invariant-of-result
+pub invariant_of-result : goal.invariant_of-result
 unfolding rises
-invariant-of-result c = search rules
+invariant_of-result c = search rules

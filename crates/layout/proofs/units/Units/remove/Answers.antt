@@ -1,4 +1,4 @@
-use Rattle.std.proofs.Common.{◌≡◌, ℕ, ◌-◌, ◌≤◌, Bool, true, false, cond, List, length, take, sym, refl, ap, ◌∙◌, arith}
+use Rattle.std.proofs.Common.{◌≡◌, ℕ, ◌-◌, ◌≤◌, true, false, cond, List, length, take, sym, ap, ◌∙◌, arith}
 use Rattle.std.proofs.lemmas.List.{length-take-le}
 use Rattle.rules.specs.declared.unit.LogicalUnit.{LogicalUnit}
 use Rattle.rules.specs.Units.{exists, without_unit}
@@ -18,37 +18,37 @@ module _ (old new : List LogicalUnit) (count n : ℕ) (left : take (cond (exists
   as_many : exists n (take count old) ≡ false → take count new ≡ without_unit n (take count old)
   as_many h = simp h at left
 
-pub overflow-sub-self : goal.overflow-sub-self
-overflow-sub-self c =
+pub overflow_sub-self : goal.overflow_sub-self
+overflow_sub-self c =
     let s = c.args.self.now in
-    some s.list s.count c.args.number (omega arith) (sym c.take-from-taken.ensures.there ∙ sym c.if-is-some.ensures)
+    some s.list s.count c.args.number (omega arith) (sym c.take_from-taken.ensures.there ∙ sym c.if-is_some.ensures)
 
-pub invariant-of-self : goal.invariant-of-self
-invariant-of-self c =
+pub invariant_of-self : goal.invariant_of-self
+invariant_of-self c =
     let s = c.args.self.now in
-    let e = one_fewer s.list c.take-from-taken.new.xs s.count c.args.number c.take-from-taken.ensures.left (sym c.take-from-taken.ensures.there ∙ sym c.if-is-some.ensures) in
-    ((omega arith, omega arith), (ap (rises (λ u. u.number) 0) e ∙ rises-remove (λ u. u.number) 0 c.args.number (take s.count s.list) s.ordered, tt))
+    let e = one_fewer s.list c.take_from-taken.new.xs s.count c.args.number c.take_from-taken.ensures.left (sym c.take_from-taken.ensures.there ∙ sym c.if-is_some.ensures) in
+    record { sized = (omega arith, omega arith); ordered = ap (rises (λ u. u.number) 0) e ∙ rises-remove (λ u. u.number) 0 c.args.number (take s.count s.list) s.ordered }
 
-pub invariant-of-self-else-is-some : goal.invariant-of-self-else-is-some
-invariant-of-self-else-is-some c =
+pub invariant_of-self-else-is_some : goal.invariant_of-self-else-is_some
+invariant_of-self-else-is_some c =
     let s = c.args.self.now in
-    let e = as_many s.list c.take-from-taken.new.xs s.count c.args.number c.take-from-taken.ensures.left (sym c.take-from-taken.ensures.there ∙ sym c.if-is-some.ensures) in
-    ((omega arith, omega arith), (ap (rises (λ u. u.number) 0) e ∙ rises-remove (λ u. u.number) 0 c.args.number (take s.count s.list) s.ordered, tt))
+    let e = as_many s.list c.take_from-taken.new.xs s.count c.args.number c.take_from-taken.ensures.left (sym c.take_from-taken.ensures.there ∙ sym c.if-is_some.ensures) in
+    record { sized = (omega arith, omega arith); ordered = ap (rises (λ u. u.number) 0) e ∙ rises-remove (λ u. u.number) 0 c.args.number (take s.count s.list) s.ordered }
 
-pub returns-then-is-some : goal.returns-then-is-some
-returns-then-is-some c =
+pub returns-then-is_some : goal.returns-then-is_some
+returns-then-is_some c =
     let s = c.args.self.now in
     record {
-      taken = c.take-from-taken.ensures.taken;
-      there = c.take-from-taken.ensures.there;
-      left = one_fewer s.list c.take-from-taken.new.xs s.count c.args.number c.take-from-taken.ensures.left (sym c.take-from-taken.ensures.there ∙ sym c.if-is-some.ensures);
+      taken = c.take_from-taken.ensures.taken;
+      there = c.take_from-taken.ensures.there;
+      left = one_fewer s.list c.take_from-taken.new.xs s.count c.args.number c.take_from-taken.ensures.left (sym c.take_from-taken.ensures.there ∙ sym c.if-is_some.ensures);
     }
 
-pub returns-else-is-some : goal.returns-else-is-some
-returns-else-is-some c =
+pub returns-else-is_some : goal.returns-else-is_some
+returns-else-is_some c =
     let s = c.args.self.now in
     record {
-      taken = c.take-from-taken.ensures.taken;
-      there = c.take-from-taken.ensures.there;
-      left = as_many s.list c.take-from-taken.new.xs s.count c.args.number c.take-from-taken.ensures.left (sym c.take-from-taken.ensures.there ∙ sym c.if-is-some.ensures);
+      taken = c.take_from-taken.ensures.taken;
+      there = c.take_from-taken.ensures.there;
+      left = as_many s.list c.take_from-taken.new.xs s.count c.args.number c.take_from-taken.ensures.left (sym c.take_from-taken.ensures.there ∙ sym c.if-is_some.ensures);
     }

@@ -1,13 +1,12 @@
-use Rattle.std.proofs.Common.{◌≡◌, sym, refl, arith}
+use Rattle.std.proofs.Common.{sym, refl}
 use Rattle.std.proofs.lemmas.Bool.{true≢false}
-use Rattle.vault.specs.Meaning.{Meaning}
 use Rattle.vault.specs.Kinds.{chip_meaning}
 use Rattle.vault.proofs.Requests.{drop-accepted, drop-sound}
 use Rattle.vault.proofs.Chips.{somewhere, nonzero, cleared, done, still}
 use Rattle.vault.proofs.chip.KeyChipVault.drop_key.Goals as goal
 
-pub invariant-of-self : goal.invariant-of-self
-invariant-of-self c =
+pub invariant_of-self : goal.invariant_of-self
+invariant_of-self c =
     let v = c.args.self.now in
     let words = v.registers.now in
     let found = sym c.in-Some.ensures.place in
@@ -15,7 +14,7 @@ invariant-of-self c =
     let k = still v.used words v.sized.0 c.args.serial c.in-Some.at found 0 _
     (cleared v.used words v.sized.0 c.args.serial c.in-Some.at found (nonzero v.used words v.sized.0 c.args.serial held))
     (drop-sound (chip_meaning v.used words) v.ordered c.args.serial held) v.sized.1 in
-    (k.0, (k.1, tt))
+    record { sized = k.0; ordered = k.1 }
 
 pub returns-in-Some : goal.returns-in-Some
 returns-in-Some c =
@@ -28,7 +27,7 @@ returns-in-Some c =
     (drop-accepted (chip_meaning v.used words) c.args.serial held) in
     record { lent = refl; kept = λ e. absurd (true≢false e); answer = d.0; after = d.1; words = d.2 }
 
-pub returns-in-default : goal.returns-in-default
-returns-in-default c =
+pub returns-in_default : goal.returns-in_default
+returns-in_default c =
     let v = c.args.self.now in
-    absurd (somewhere v.used v.registers.now v.sized.0 c.args.serial (sym c.if-not-holds.ensures) (sym c.in-default.ensures.place))
+    absurd (somewhere v.used v.registers.now v.sized.0 c.args.serial (sym c.if-not-holds.ensures) (sym c.in_default.ensures.place))

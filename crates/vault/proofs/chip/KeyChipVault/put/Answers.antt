@@ -1,4 +1,4 @@
-use Rattle.std.proofs.Common.{◌≡◌, set, sym, refl, ap, ◌∙◌, arith}
+use Rattle.std.proofs.Common.{set, sym, refl, arith}
 use Rattle.std.proofs.lemmas.Bool.{true≢false}
 use Rattle.vault.specs.declared.refusal.VaultRefusal.TheVariants.{Full}
 use Rattle.vault.specs.Serials.{adds}
@@ -9,8 +9,8 @@ use Rattle.vault.proofs.Requests.{put-accepted, put_full, put-sound}
 use Rattle.vault.proofs.Chips.{full, free, filled, done, still}
 use Rattle.vault.proofs.chip.KeyChipVault.put.Goals as goal
 
-pub invariant-of-self : goal.invariant-of-self
-invariant-of-self c =
+pub invariant_of-self : goal.invariant_of-self
+invariant_of-self c =
     let v = c.args.self.now in
     let s = c.args.serial in
     let at = c.in-Some.at in
@@ -18,7 +18,7 @@ invariant-of-self c =
     let words = v.registers.now in
     let k = still v.used words v.sized.0 0 at found s _ (filled v.used words v.sized.0 at found s c.if-serial-eq0.false)
     (put-sound (chip_meaning v.used words) v.ordered s (omega arith) (sym c.if-holds.ensures) (free v.used words v.sized.0 at found)) v.sized.1 in
-    (k.0, (k.1, tt))
+    record { sized = k.0; ordered = k.1 }
 
 pub returns-in-Some : goal.returns-in-Some
 returns-in-Some c =

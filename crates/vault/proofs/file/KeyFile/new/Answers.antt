@@ -1,7 +1,7 @@
-use Rattle.std.proofs.Common.{refl, arith, rules}
+use Rattle.std.proofs.Common.{rules}
 use Rattle.packed.specs.Rising.{rises}
 use Rattle.vault.proofs.file.KeyFile.new.Goals as goal
 
-pub invariant-of-result : goal.invariant-of-result
+pub invariant_of-result : goal.invariant_of-result
 unfolding rises
-invariant-of-result c = search rules
+invariant_of-result c = search rules

@@ -1,4 +1,4 @@
-use Rattle.std.proofs.Common.{◌≡◌, sym, ap, ◌∙◌, arith}
+use Rattle.std.proofs.Common.{sym, ap, ◌∙◌, arith}
 use Rattle.packed.proofs.Order.{has-remove}
 use Rattle.vault.specs.Serials.{holds}
 use Rattle.vault.proofs.file.KeyFileVault.swap.Goals as goal
