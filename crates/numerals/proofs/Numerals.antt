@@ -1,7 +1,7 @@
 -- What `from_str_radix` answers at a text of digits alone: it has no sign, so the value alone decides.
-use Rattle.std.proofs.Common.{◌≡◌, ℕ, ◌^◌, ◌<◌, ◌≤◌, Bool, true, false, List, [], ◌∷◌, length, Ok, Err, Result, refl, rules}
+use Rattle.std.proofs.Common.{◌≡◌, ℕ, ◌^◌, ◌<◌, ◌≤◌, true, false, List, [], ◌∷◌, length, Ok, Err, Result, refl, rules}
 use Rattle.std.specs.Result.{OkIff}
-use Rattle.std.specs.Str.Parse.{AllDigits, IsNumeral, ParsesUnsigned, digits_value, without_leading_plus}
+use Rattle.std.specs.Str.Parse.{AllDigits, ParsesUnsigned, digits_value, without_leading_plus}
 use Rattle.numerals.specs.Number.{all_digits, numeral, is_hex}
 
 pub digits-all : (base : ℕ) (bs : List ℕ) → all_digits base bs ≡ true → AllDigits base bs

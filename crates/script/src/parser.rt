@@ -113,7 +113,7 @@ fn call<'a>(first: &'a str, words: &mut Words<'a>) -> Result<Call, Fault<'a>>
 
 /// A method, after its caller. None is built yet, so each is refused.
 fn method<'a>(words: &mut Words<'a>) -> Result<Call, Fault<'a>>
-    ensures { OnOk result (⊥) }
+    ensures { OnOk result ⊥ }
 {
     let word = words.word("the method")?;
     match Keyword::named(word) {

@@ -9,8 +9,8 @@ one_more : (base : ℕ) (bs : List ℕ) (i : ℕ) → i < length bs →
     all_digits base (drop i bs) ≡ (ltb (digit_value (get_or bs i 0)) base && all_digits base (drop (i + 1) bs))
 one_more base bs i h = at_drop_more (all_digits base) bs i 0 h
 
-pub returns-then-not-is-digit : goal.returns-then-not-is-digit
-returns-then-not-is-digit c =
+pub returns-then-not-is_digit : goal.returns-then-not-is_digit
+returns-then-not-is_digit c =
     let h = one_more c.args.radix c.args.text.now c.loop-byte.byte-index (omega arith) in
     search rules
 

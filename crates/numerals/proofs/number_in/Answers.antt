@@ -4,5 +4,5 @@ use Rattle.numerals.proofs.number_in.Goals as goal
 
 pub returns-in-Err : goal.returns-in-Err
 returns-in-Err c =
-    let h = converted c.args.radix c.args.digits.now _ c.requires.high (search rules) c.from-str-radix.ensures.value in
+    let h = converted c.args.radix c.args.digits.now _ c.requires.high (search rules) c.from_str_radix.ensures.value in
     search rules

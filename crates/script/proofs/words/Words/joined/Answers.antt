@@ -7,5 +7,5 @@ regrouped a w r = simp append_assoc
 
 pub loop-word-preserved : goal.loop-word-preserved
 loop-word-preserved c =
-    let e = regrouped (string_bytes c.loop-word.all) c.in-Some-next-word.word.now (after_spaces (words_of c.next-word-in-loop-word.new.self.rest.now)) in
+    let e = regrouped (string_bytes c.loop-word.all) c.in-Some-next_word.word.now (after_spaces (words_of c.next_word-in-loop-word.new.self.rest.now)) in
     search rules
