@@ -8,9 +8,9 @@ use table::calls::*;
 
 /// Asks a table, and gives what comes back; nothing where there is no code for it yet.
 pub fn make<C: Calls>(table: &mut C, ask: Ask) -> Option<Reply>
-    ensures lent { lenders table.new ≡ lenders table.old }
-    ensures reply { IfSome result (λ reply. reply ≡ reply_to (model table.old) ask) }
-    ensures after { MatchOption result (table.new ≡ table.old) (λ _. model table.new ≡ left_by (model table.old) ask) }
+    ensures lent { C.lenders table.new ≡ C.lenders table.old }
+    ensures reply { IfSome result (λ reply. reply ≡ reply_to (C.model table.old) ask) }
+    ensures after { MatchOption result (table.new ≡ table.old) (λ _. C.model table.new ≡ left_by (C.model table.old) ask) }
 {
     match ask {
         Ask::Call {

@@ -1,5 +1,5 @@
 -- What a call of a script answers and leaves.
-use Rattle.std.specs.Prelude.{ℕ, Ok, Err, Result}
+use Rattle.std.specs.Prelude.{Ok, Err, Result}
 use Rattle.rules.specs.declared.cause.Cause.{Cause}
 use Rattle.rules.specs.Drive.{Drive}
 use Rattle.rules.specs.Commands.{create_answer, create_after, delete_answer, delete_after}

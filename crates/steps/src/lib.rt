@@ -20,9 +20,9 @@ pub enum Answer {
 
 /// Makes one call.
 pub fn make<C: Calls>(table: &mut C, call: Call) -> Answer
-    ensures lent { lenders table.new ≡ lenders table.old }
-    ensures answer { result ≡ answer_to (model table.old) call }
-    ensures after { model table.new ≡ after (model table.old) call }
+    ensures lent { C.lenders table.new ≡ C.lenders table.old }
+    ensures answer { result ≡ answer_to (C.model table.old) call }
+    ensures after { C.model table.new ≡ after (C.model table.old) call }
 {
     match call {
         Call::Create { unit, blocks } => match table.create(unit, blocks) {
