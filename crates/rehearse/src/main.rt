@@ -11,11 +11,20 @@ use anyhow::anyhow;
 use input::read_script;
 use rehearsal::perform;
 use script::parse;
+use std::process::ExitCode;
 
-fn main(rt: HostRuntime) -> anyhow::Result<()> {
-    let text = read_script(&rt)?;
+// An error that ended the program has been told already, in one message.
+fn main(rt: HostRuntime) -> ExitCode {
+    match rehearse(&rt) {
+        Ok(()) => ExitCode::SUCCESS,
+        Err(_) => ExitCode::FAILURE,
+    }
+}
+
+fn rehearse(rt: &HostRuntime) -> anyhow::Result<()> {
+    let text = read_script(rt)?;
     match parse(rt.alloc(), text.as_str()) {
-        Ok(script) => perform(&rt, &script),
+        Ok(script) => perform(rt, &script),
         Err(error) => {
             eprintln!(rt; "rehearse: {error}")?;
             Err(anyhow!("a line cannot be read"))

@@ -1,6 +1,6 @@
 -- What an accepted call has passed.
 use Rattle.std.proofs.Common.{◌≡◌, ℕ, ◌^◌, Bool, true, false, cond, not, ◌&&◌, eqb, leb, List, [], ◌∷◌, length, Some, None, Option, refl, arith}
-use Rattle.std.specs.List.{AllByRecursion as All}
+use Rattle.std.specs.List.{AllByRecursion}
 use Rattle.vault.specs.Checks.{first_of}
 use Rattle.rules.specs.declared.cause.Cause.{Cause}
 use Rattle.rules.specs.declared.cause.Cause.TheVariants.{NoSuchUnit, UnitExists, BadSize, NoUnusedKey, SerialsRunOut, Locked, HasUnitRow, SixteenUnits, Closed}
@@ -33,7 +33,7 @@ delete_checks d n =
 
 -- each of the checks
 abbrev pub Passed : List (Bool × Cause) → Type 0
-Passed checks = All (λ check. check.0 ≡ false) checks
+Passed checks = AllByRecursion (λ check. check.0 ≡ false) checks
 
 pub all-passed : (checks : List (Bool × Cause)) → first_of checks ≡ None → Passed checks
 all-passed [] e = tt

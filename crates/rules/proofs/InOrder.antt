@@ -3,7 +3,7 @@ use Rattle.std.proofs.Common.{◌≡◌, ℕ, zero, suc, ◌+◌, ◌<◌, Bool,
 use Rattle.std.proofs.ByRecursion.{All-weaker, All-map}
 use Rattle.std.proofs.lemmas.List.{get_or_past}
 use Rattle.std.proofs.lemmas.Bool.{cases_lt, both_ways, and_parts, leb-true, eq-eqb, ne_eqb, cond-true, cond-false}
-use Rattle.std.specs.List.{AllByRecursion as All}
+use Rattle.std.specs.List.{AllByRecursion}
 use Rattle.packed.specs.Rising.{rises}
 use Rattle.rules.specs.declared.row.Kind.{Kind}
 use Rattle.rules.specs.declared.row.Kind.TheVariants.{Free, Global, UnitRow, RangeRow}
@@ -46,9 +46,9 @@ other_key d (TheRow q) (TheRow r) v ne = ap (λ (x : Row). key_or x.kind 0) (unw
 -- ---- lists in which nothing stands twice
 abbrev NoRepeat : {A : Type 0} → List A → Type 0
 NoRepeat [] = Unit {0}
-NoRepeat (x ∷ xs) = All (λ y. y ≢ x) xs × NoRepeat xs
+NoRepeat (x ∷ xs) = AllByRecursion (λ y. y ≢ x) xs × NoRepeat xs
 
-all_of : {A : Type 0} (P : A → Type 0) → ((x : A) → P x) → (xs : List A) → All P xs
+all_of : {A : Type 0} (P : A → Type 0) → ((x : A) → P x) → (xs : List A) → AllByRecursion P xs
 all_of P f [] = tt
 all_of P f (x ∷ xs) = (f x, all_of P f xs)
 
@@ -57,7 +57,7 @@ no-repeat-map f inj [] n = tt
 no-repeat-map f inj (x ∷ xs) n = (All-map (λ y. y ≢ f x) f xs (All-weaker (λ y. y ≢ x) (λ y. f y ≢ f x) (λ y ne e. ne (inj y x e)) xs n.0), no-repeat-map f inj xs n.1)
 
 -- ---- many fresh keys
-renewed-other : (d : Drive) (holders : List Holder) (other : Holder) → HasKey d other → All (λ holder. holder ≢ other) holders → key_of (fresh_keys d holders) other ≡ key_of d other
+renewed-other : (d : Drive) (holders : List Holder) (other : Holder) → HasKey d other → AllByRecursion (λ holder. holder ≢ other) holders → key_of (fresh_keys d holders) other ≡ key_of d other
 unfolding fresh_keys
 renewed-other d [] other v a = refl
 renewed-other d (holder ∷ holders) other v a = renewed-other (fresh_key d holder) holders other (valid-kept d holder other v) a.1 ∙ other_key d holder other v a.0
@@ -66,7 +66,7 @@ fresh-next : (d : Drive) (holder : Holder) → (fresh_key d holder).next ≡ d.n
 fresh-next d (TheUnit n) = refl
 fresh-next d (TheRow r) = refl
 
-renewed-each : (d : Drive) (holders : List Holder) → All (HasKey d) holders → NoRepeat holders → (i : ℕ) → i < length holders → key_of (fresh_keys d holders) (get_or holders i (TheUnit 0)) ≡ d.next + i
+renewed-each : (d : Drive) (holders : List Holder) → AllByRecursion (HasKey d) holders → NoRepeat holders → (i : ℕ) → i < length holders → key_of (fresh_keys d holders) (get_or holders i (TheUnit 0)) ≡ d.next + i
 unfolding fresh_keys
 renewed-each d [] v n i l = absurd (let b : ⊥ = omega arith in b)
 renewed-each d (holder ∷ holders) v n zero l =
@@ -75,11 +75,11 @@ renewed-each d (holder ∷ holders) v n (suc i) l =
     renewed-each (fresh_key d holder) holders (All-weaker (HasKey d) (HasKey (fresh_key d holder)) (λ x. valid-kept d holder x) holders v.1) n.1 i (omega arith)
     ∙ (let e = fresh-next d holder in let f : (fresh_key d holder).next + i ≡ d.next + suc i = omega arith in f)
 
-in_order : (d : Drive) (holders : List Holder) → All (HasKey d) holders → NoRepeat holders → KeyedInOrder d holders
+in_order : (d : Drive) (holders : List Holder) → AllByRecursion (HasKey d) holders → NoRepeat holders → KeyedInOrder d holders
 in_order d holders v n = record { each = renewed-each d holders v n; others = λ other w a. renewed-other d holders other w a }
 
 -- ---- what gets fresh keys stands in its list once
-above : (rows : List Row) (m low : ℕ) (us : List LogicalUnit) → m < low → rises (λ u. u.number) low us ≡ true → All (λ y. y ≢ TheUnit m) (units_under_global rows us)
+above : (rows : List Row) (m low : ℕ) (us : List LogicalUnit) → m < low → rises (λ u. u.number) low us ≡ true → AllByRecursion (λ y. y ≢ TheUnit m) (units_under_global rows us)
 unfolding rises
 above rows m low [] l r = tt
 above rows m low (u ∷ us) l r =
@@ -87,8 +87,8 @@ above rows m low (u ∷ us) l r =
     let le = leb-true low u.number p.0 in
     go (not (is_there (UnitRowOf u.number) rows)) (λ e. let q : u.number ≡ m = cc in omega arith) (above rows m (suc u.number) us (omega arith) p.1)
   where
-    go : (b : Bool) → TheUnit u.number ≢ TheUnit m → All (λ y. y ≢ TheUnit m) (units_under_global rows us)
-        → All (λ y. y ≢ TheUnit m) (map (λ (v : LogicalUnit). TheUnit v.number) (cond b (u ∷ filter (λ v. not (is_there (UnitRowOf v.number) rows)) us) (filter (λ v. not (is_there (UnitRowOf v.number) rows)) us)))
+    go : (b : Bool) → TheUnit u.number ≢ TheUnit m → AllByRecursion (λ y. y ≢ TheUnit m) (units_under_global rows us)
+        → AllByRecursion (λ y. y ≢ TheUnit m) (map (λ (v : LogicalUnit). TheUnit v.number) (cond b (u ∷ filter (λ v. not (is_there (UnitRowOf v.number) rows)) us) (filter (λ v. not (is_there (UnitRowOf v.number) rows)) us)))
     go true ne a = (ne, a)
     go false ne a = a
 
@@ -99,7 +99,7 @@ units-once rows low (u ∷ us) r =
     let p = and_parts (leb low u.number) _ r in
     go (not (is_there (UnitRowOf u.number) rows)) (above rows u.number (suc u.number) us (omega arith) p.1) (units-once rows (suc u.number) us p.1)
   where
-    go : (b : Bool) → All (λ y. y ≢ TheUnit u.number) (units_under_global rows us) → NoRepeat (units_under_global rows us)
+    go : (b : Bool) → AllByRecursion (λ y. y ≢ TheUnit u.number) (units_under_global rows us) → NoRepeat (units_under_global rows us)
         → NoRepeat (map (λ (v : LogicalUnit). TheUnit v.number) (cond b (u ∷ filter (λ v. not (is_there (UnitRowOf v.number) rows)) us) (filter (λ v. not (is_there (UnitRowOf v.number) rows)) us)))
     go true a n = (a, n)
     go false a n = n

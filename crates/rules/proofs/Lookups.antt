@@ -3,7 +3,7 @@ use Rattle.std.proofs.Common.{◌≡◌, ℕ, suc, ◌<◌, Bool, true, false, c
 use Rattle.std.proofs.lemmas.Bool.Decides.{nat_tests}
 use Rattle.std.proofs.lemmas.Bool.{both_ways, eqb-true, true≢false}
 use Rattle.std.specs.Option.{option_map}
-use Rattle.std.specs.List.{AllByRecursion as All}
+use Rattle.std.specs.List.{AllByRecursion}
 use Rattle.packed.specs.First.{first}
 use Rattle.packed.specs.Rising.{rises, has, lookup, insert, remove, change}
 use Rattle.packed.proofs.Order.{has-absent}
@@ -70,31 +70,31 @@ module _ {A : Type 0} (key : A → ℕ) where
       go false e ih = ih (let r : has key k xs ≡ true = grind (arith, nat_tests) in r)
 
   -- what holds of each holds of the one that is found
-  pub all_lookup : (P : A → Type 0) (k : ℕ) (xs : List A) (d : A) → has key k xs ≡ true → All P xs → P (unwrap_or (lookup key k xs) d)
+  pub all_lookup : (P : A → Type 0) (k : ℕ) (xs : List A) (d : A) → has key k xs ≡ true → AllByRecursion P xs → P (unwrap_or (lookup key k xs) d)
   unfolding lookup has
   all_lookup P k [] d h a = absurd (true≢false (sym h))
   all_lookup P k (x ∷ xs) d h a = go (eqb (key x) k) refl (all_lookup P k xs d)
     where
-      go : (b : Bool) → eqb (key x) k ≡ b → (has key k xs ≡ true → All P xs → P (unwrap_or (lookup key k xs) d)) → P (unwrap_or (cond b (Some x) (lookup key k xs)) d)
+      go : (b : Bool) → eqb (key x) k ≡ b → (has key k xs ≡ true → AllByRecursion P xs → P (unwrap_or (lookup key k xs) d)) → P (unwrap_or (cond b (Some x) (lookup key k xs)) d)
       go true e ih = a.0
       go false e ih = ih (let r : has key k xs ≡ true = grind (arith, nat_tests) in r) a.1
 
   -- ---- what holds of each
-  pub all_insert : (P : A → Type 0) (x : A) (ys : List A) → P x → All P ys → All P (insert key x ys)
+  pub all_insert : (P : A → Type 0) (x : A) (ys : List A) → P x → AllByRecursion P ys → AllByRecursion P (insert key x ys)
   unfolding insert
   all_insert P x [] p a = (p, tt)
   all_insert P x (y ∷ ys) p a = go (ltb (key y) (key x)) (all_insert P x ys p a.1)
     where
-      go : (b : Bool) → All P (insert key x ys) → All P (cond b (y ∷ insert key x ys) (x ∷ y ∷ ys))
+      go : (b : Bool) → AllByRecursion P (insert key x ys) → AllByRecursion P (cond b (y ∷ insert key x ys) (x ∷ y ∷ ys))
       go true ih = (a.0, ih)
       go false ih = (p, a)
 
-  pub all_remove : (P : A → Type 0) (n : ℕ) (xs : List A) → All P xs → All P (remove key n xs)
+  pub all_remove : (P : A → Type 0) (n : ℕ) (xs : List A) → AllByRecursion P xs → AllByRecursion P (remove key n xs)
   unfolding remove
   all_remove P n [] a = a
   all_remove P n (x ∷ xs) a = go (eqb (key x) n) (all_remove P n xs a.1)
     where
-      go : (b : Bool) → All P (remove key n xs) → All P (cond b xs (x ∷ remove key n xs))
+      go : (b : Bool) → AllByRecursion P (remove key n xs) → AllByRecursion P (cond b xs (x ∷ remove key n xs))
       go true ih = a.1
       go false ih = (a.0, ih)
 
@@ -144,11 +144,11 @@ module _ {A : Type 0} (key : A → ℕ) where
         go true ih = refl
         go false ih = ap suc ih
 
-    pub all-change : (P : A → Type 0) → ((x : A) → P x → P (f x)) → (xs : List A) → All P xs → All P (change key n f xs)
+    pub all-change : (P : A → Type 0) → ((x : A) → P x → P (f x)) → (xs : List A) → AllByRecursion P xs → AllByRecursion P (change key n f xs)
     unfolding change
     all-change P q [] a = a
     all-change P q (x ∷ xs) a = go (eqb (key x) n) (all-change P q xs a.1)
       where
-        go : (b : Bool) → All P (change key n f xs) → All P (cond b (f x ∷ xs) (x ∷ change key n f xs))
+        go : (b : Bool) → AllByRecursion P (change key n f xs) → AllByRecursion P (cond b (f x ∷ xs) (x ∷ change key n f xs))
         go true ih = (q x a.0, a.1)
         go false ih = (a.0, ih)

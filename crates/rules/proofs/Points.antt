@@ -2,7 +2,7 @@
 use Rattle.std.proofs.Common.{◌≡◌, ℕ, suc, ◌+◌, true, cond, eqb, ltb, List, [], ◌∷◌, ◌++◌, map, length, filter, sym, refl, ap, ◌∙◌, arith}
 use Rattle.std.proofs.lemmas.Bool.Decides.{nat_tests}
 use Rattle.std.proofs.lemmas.Bool.{and_parts, and_from, eq-eqb, leb-true}
-use Rattle.std.specs.List.{AllByRecursion as All}
+use Rattle.std.specs.List.{AllByRecursion}
 use Rattle.packed.proofs.Order.{length-insert}
 use Rattle.vault.proofs.Requests.{room}
 use Rattle.vault.specs.Serials.{adds, collect}
@@ -49,7 +49,7 @@ length-words (x ∷ xs) ys =
     let b = length-insert (λ y. y) x (collect xs) in
     grind (arith, nat_tests)
 
-length-unit-keys : (bounds : Bounds) (us : List LogicalUnit) → All (λ u. unit_fits bounds u ≡ true) us → length (collect (map serial_of us)) ≡ length us
+length-unit-keys : (bounds : Bounds) (us : List LogicalUnit) → AllByRecursion (λ u. unit_fits bounds u ≡ true) us → length (collect (map serial_of us)) ≡ length us
 unfolding collect
 length-unit-keys bounds [] a = refl
 length-unit-keys bounds (u ∷ us) a =

@@ -5,7 +5,7 @@ use Rattle.std.proofs.lemmas.List.{length-set}
 use Rattle.std.proofs.lemmas.Bool.Decides.{nat_tests}
 use Rattle.std.proofs.lemmas.Bool.{and_parts, and_from, ltb-true, lt-ltb, true≢false}
 use Rattle.std.specs.Option.{option_map}
-use Rattle.std.specs.List.{AllByRecursion as All}
+use Rattle.std.specs.List.{AllByRecursion}
 use Rattle.packed.specs.Rising.{has, lookup}
 use Rattle.packed.proofs.Order.{lookup-found}
 use Rattle.packed.proofs.Search.{found_within}
@@ -185,7 +185,7 @@ fresh-next : (d : Drive) (holder : Holder) → (fresh_key d holder).next ≡ d.n
 fresh-next d (TheUnit n) = refl
 fresh-next d (TheRow r) = refl
 
-pub renewed-sound : (d : Drive) (holders : List Holder) → Sound d → All (HasKey d) holders → d.next + length holders ≤ 4294967295
+pub renewed-sound : (d : Drive) (holders : List Holder) → Sound d → AllByRecursion (HasKey d) holders → d.next + length holders ≤ 4294967295
     → Sound (fresh_keys d holders) × NoneRefused d.vault (swaps d holders) (fresh_keys d holders).vault
 unfolding fresh_keys swaps
 renewed-sound d [] h v le = (h, refl)
@@ -196,29 +196,29 @@ renewed-sound d (holder ∷ holders) h v le =
     (ih.0, (s.1, ih.1))
 
 -- ---- what gets fresh keys is there
-all-exist : (us : List LogicalUnit) → All (λ u. exists u.number us ≡ true) us
+all-exist : (us : List LogicalUnit) → AllByRecursion (λ u. exists u.number us ≡ true) us
 unfolding has
 all-exist [] = tt
 all-exist (u ∷ us) = (grind (arith, nat_tests), All-weaker (λ v. exists v.number us ≡ true) (λ v. exists v.number (u ∷ us) ≡ true) (λ v e. grind (arith, nat_tests)) us (all-exist us))
 
-pub valid-under-global : (d : Drive) → All (HasKey d) (units_under_global d.rows d.units)
+pub valid-under-global : (d : Drive) → AllByRecursion (HasKey d) (units_under_global d.rows d.units)
 valid-under-global d =
     All-map (HasKey d) (λ u. TheUnit u.number) (filter (λ u. not (is_there (UnitRowOf u.number) d.rows)) d.units)
     (all_kept_by (λ u. not (is_there (UnitRowOf u.number) d.rows)) (λ u. exists u.number d.units ≡ true) d.units (all-exist d.units))
 
-pub valid-of-row : (d : Drive) → Sound d → (r : ℕ) (kind : Kind) → (row r d.rows).kind ≡ kind → All (HasKey d) (holders_of d r kind)
+pub valid-of-row : (d : Drive) → Sound d → (r : ℕ) (kind : Kind) → (row r d.rows).kind ≡ kind → AllByRecursion (HasKey d) (holders_of d r kind)
 valid-of-row d h r Free e = tt
 valid-of-row d h r Global e = valid-under-global d
 valid-of-row d h r (UnitRow u) e = (ap (row_fits d.units d.rows) (sym e) ∙ h.rows.each r, tt)
 valid-of-row d h r (RangeRow u s l k) e = (ap is_range_row e, tt)
 
 -- each of the rows that are looked for is one
-all-rows : (w : Sought) (rows : List Row) → All (λ r. suits w (row r rows) ≡ true) (all_rows w rows)
+all-rows : (w : Sought) (rows : List Row) → AllByRecursion (λ r. suits w (row r rows) ≡ true) (all_rows w rows)
 unfolding all_rows
 all-rows w [] = tt
 all-rows w (x ∷ xs) = go (suits w x) refl (All-map (λ r. suits w (row r (x ∷ xs)) ≡ true) suc (all_rows w xs) (all-rows w xs))
   where
-    go : (b : Bool) → suits w x ≡ b → All (λ r. suits w (row r (x ∷ xs)) ≡ true) (map suc (all_rows w xs)) → All (λ r. suits w (row r (x ∷ xs)) ≡ true) (cond b (0 ∷ map suc (all_rows w xs)) (map suc (all_rows w xs)))
+    go : (b : Bool) → suits w x ≡ b → AllByRecursion (λ r. suits w (row r (x ∷ xs)) ≡ true) (map suc (all_rows w xs)) → AllByRecursion (λ r. suits w (row r (x ∷ xs)) ≡ true) (cond b (0 ∷ map suc (all_rows w xs)) (map suc (all_rows w xs)))
     go true e a = (e, a)
     go false e a = a
 
@@ -228,7 +228,7 @@ range-row-is n Global e = absurd (true≢false (sym e))
 range-row-is n (UnitRow u) e = absurd (true≢false (sym e))
 range-row-is n (RangeRow u s l k) e = refl
 
-pub valid-of-unit : (d : Drive) (n : ℕ) → exists n d.units ≡ true → All (HasKey d) (unit_and_ranges d n)
+pub valid-of-unit : (d : Drive) (n : ℕ) → exists n d.units ≡ true → AllByRecursion (HasKey d) (unit_and_ranges d n)
 valid-of-unit d n ex = (
   ex,
   All-map (HasKey d) TheRow (all_rows (RangeRowOf n) d.rows)

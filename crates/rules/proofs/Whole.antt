@@ -2,7 +2,7 @@
 use Rattle.std.proofs.Common.{◌≡◌, ℕ, suc, ◌+◌, ◌<◌, ◌≤◌, Bool, true, false, cond, not, List, [], ◌∷◌, length, Some, None, Option, sym, refl, ap, ◌∙◌, subst, inl, inr, ⊎_elim, arith}
 use Rattle.std.proofs.lemmas.Bool.Decides.{nat_tests}
 use Rattle.std.proofs.lemmas.Bool.{both_ways, or_right, or_from, true≢false}
-use Rattle.std.specs.List.{AllByRecursion as All}
+use Rattle.std.specs.List.{AllByRecursion}
 use Rattle.packed.proofs.Order.{has-insert, has-remove}
 use Rattle.vault.specs.Checks.{unless}
 use Rattle.vault.specs.declared.refusal.VaultRefusal.{VaultRefusal}
@@ -40,7 +40,7 @@ BringsIn least (Put s) = least ≤ s
 BringsIn least (Swap old new) = least ≤ new
 BringsIn least (Drop s) = Unit {0}
 
-swaps-new : (d : Drive) (holders : List Holder) (least : ℕ) → least ≤ d.next → All (BringsIn least) (swaps d holders)
+swaps-new : (d : Drive) (holders : List Holder) (least : ℕ) → least ≤ d.next → AllByRecursion (BringsIn least) (swaps d holders)
 unfolding swaps
 swaps-new d [] least l = tt
 swaps-new d (holder ∷ holders) least l = (l, swaps-new (fresh_key d holder) holders least (grown holder))
@@ -49,15 +49,15 @@ swaps-new d (holder ∷ holders) least l = (l, swaps-new (fresh_key d holder) ho
     grown (TheUnit n) = omega arith
     grown (TheRow r) = omega arith
 
-requests-new : (d : Drive) (c : Call) → All (BringsIn d.next) (requests d c)
+requests-new : (d : Drive) (c : Call) → AllByRecursion (BringsIn d.next) (requests d c)
 requests-new d (Assign caller n start len standing) = go (is_there (UnitRowOf n) d.rows)
   where
-    go : (b : Bool) → All (BringsIn d.next) (cond b (Put d.next ∷ []) [])
+    go : (b : Bool) → AllByRecursion (BringsIn d.next) (cond b (Put d.next ∷ []) [])
     go true = (omega arith, tt)
     go false = tt
 requests-new d (Deassign caller r keep) = go keep (kind_of d r)
   where
-    go : (keep : Bool) (kind : Kind) → All (BringsIn d.next) (requests_of_deassign d keep kind)
+    go : (keep : Bool) (kind : Kind) → AllByRecursion (BringsIn d.next) (requests_of_deassign d keep kind)
     go keep Free = tt
     go keep Global = tt
     go true (UnitRow u) = tt
@@ -86,7 +86,7 @@ absent_by s least m (Put t) l b h = absent-either s (put_refusal m t) m (adds t 
 absent_by s least m (Swap old new) l b h = absent-either s (swap_refusal m old new) m (adds new (drops old m.held)) h (absent-add s new (drops old m.held) (omega arith) (has-remove (λ x. x) s old m.held h))
 absent_by s least m (Drop t) l b h = absent-either s (drop_refusal m t) m (drops t m.held) h (has-remove (λ x. x) s t m.held h)
 
-absent-after : (s least : ℕ) (m : Meaning) (asked : List Request) (last : Meaning) → s < least → All (BringsIn least) asked → NoneRefused m asked last → holds s m.held ≡ false → holds s last.held ≡ false
+absent-after : (s least : ℕ) (m : Meaning) (asked : List Request) (last : Meaning) → s < least → AllByRecursion (BringsIn least) asked → NoneRefused m asked last → holds s m.held ≡ false → holds s last.held ≡ false
 absent-after s least m [] last l b n h = ap (λ (v : Meaning). holds s v.held) n ∙ h
 absent-after s least m (request ∷ asked) last l b n h = absent-after s least (vault_after m request) asked last l b.1 n.1 (absent_by s least m request l b.0 h)
 

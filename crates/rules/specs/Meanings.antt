@@ -1,6 +1,6 @@
 -- What some of the definitions come to, in other words.
 use Rattle.std.specs.Prelude.{◌≡◌, ℕ, ◌+◌, ◌<◌, ◌≤◌, true, false, ◌≢◌, List, length, Some, None, filter, slice_index_or}
-use Rattle.std.specs.List.{AllByRecursion as All}
+use Rattle.std.specs.List.{AllByRecursion}
 use Rattle.rules.specs.declared.access.Access.{Access}
 use Rattle.rules.specs.declared.call.Answer.TheVariants.{SingleUserRows}
 use Rattle.rules.specs.declared.call.Call.{Call}
@@ -51,7 +51,7 @@ ReactivateCountsRows = (d : Drive) → Begins d → (calls : List Call) (k calle
 -- fresh keys are given in order: the first of these gets the next serial, the second the one after it, and so on; and no other key changes
 pub record KeyedInOrder (d : Drive) (holders : List Holder) : Type 0 where
   pub each : (i : ℕ) → i < length holders → key_of (fresh_keys d holders) (slice_index_or holders i (TheUnit 0)) ≡ d.next + i
-  pub others : (other : Holder) → HasKey d other → All (λ holder. holder ≢ other) holders → key_of (fresh_keys d holders) other ≡ key_of d other
+  pub others : (other : Holder) → HasKey d other → AllByRecursion (λ holder. holder ≢ other) holders → key_of (fresh_keys d holders) other ≡ key_of d other
 
 abbrev pub FreshKeysInOrder : Type 0
 FreshKeysInOrder = (d : Drive) → Sound d

@@ -1,6 +1,6 @@
 -- What a sheet can describe: a drive that is in order, over a vault that holds its keys.
 use Rattle.std.specs.Prelude.{◌≡◌, ℕ, ◌+◌, ◌^◌, ◌<◌, ◌≤◌, Bool, true, false, ◌&&◌, ◌||◌, List, ◌++◌, map, length, ◌==◌, nat_le, nat_lt}
-use Rattle.std.specs.List.{AllByRecursion as All}
+use Rattle.std.specs.List.{AllByRecursion}
 use Rattle.packed.specs.Rising.{rises}
 use Rattle.vault.specs.Kinds.{can_be_capacity}
 use Rattle.vault.specs.Meaning.{Meaning, sound}
@@ -25,7 +25,7 @@ unit_fits bounds u = valid bounds u.number && ((nat_le 1 u.blocks && nat_le u.bl
 pub record SoundUnits (bounds : Bounds) (units : List LogicalUnit) : Type 0 where
   pub few : length units ≤ 16
   pub ordered : rises (λ u. u.number) 0 units ≡ true
-  pub each : All (λ u. unit_fits bounds u ≡ true) units
+  pub each : AllByRecursion (λ u. unit_fits bounds u ≡ true) units
 
 -- ---- rows
 abbrev pub is_global : Kind → Bool

@@ -1,6 +1,6 @@
 -- Which call the words of a line say.
 use Rattle.std.specs.Prelude.{◌≡◌, ℕ, ◌^◌, List, [], ◌∷◌, Some, None, Ok, vec_items, string_bytes, codes, Option}
-use Rattle.std.specs.List.{AllByRecursion as All}
+use Rattle.std.specs.List.{AllByRecursion}
 use Rattle.script.specs.Line.{words_of}
 use Rattle.numerals.specs.Number.{read, fitted}
 use Rattle.script.specs.declared.calls.Call.{Call}
@@ -63,7 +63,7 @@ abbrev pub LineSays : Line → Type 0
 LineSays l = Says l.call (words_of (string_bytes l.words))
 
 abbrev pub Faithful : Script → Type 0
-Faithful s = LaysOut s.layout (words_of (string_bytes s.layout_words)) × All LineSays (vec_items s.lines)
+Faithful s = LaysOut s.layout (words_of (string_bytes s.layout_words)) × AllByRecursion LineSays (vec_items s.lines)
 
 -- the same of a script that may not have begun
 abbrev pub SoFar : Option Script → Type 0
