@@ -117,7 +117,7 @@ impl fmt::Display for Words {
             None => (),
         }
         let Words { name, last, .. } = *self;
-        write!(f, "{name}{last}")?;
+        write!(f, "{name}")?;
         for number in self.numbers.iter().take(self.used) {
             write!(f, " {number}")?;
         }
@@ -129,7 +129,7 @@ impl fmt::Display for Words {
         if let Some(flags) = self.flags {
             write_flags(flags, f)?;
         }
-        Ok(())
+        write!(f, "{last}")
     }
 }
 
