@@ -13,7 +13,7 @@ use rehearsal::perform;
 use script::parse;
 use std::process::ExitCode;
 
-// An error that ended the program has been told already, in one message.
+// What is wrong with a script has been told by now, in one message: the error only decides the status.
 fn main(rt: HostRuntime) -> ExitCode {
     match rehearse(&rt) {
         Ok(()) => ExitCode::SUCCESS,

@@ -68,7 +68,8 @@ module _ (d : Drive) (h : Sound d) where
   left-kept (Erase caller r) e =
       let p = all-passed (erase_checks d caller r) (else-none (opening_refusal caller) _ e) in
       let g = generated-sound d h r p.1.1.1.1.1.0 in
-      (locks-sound (key_generated d r) g.0 r blank (alike-free d (key_generated d r) (alike-renewed d (holders_of d r (kind_of d r))) r ∙ p.1.1.0), g.1)
+      let asked : NoneRefused d.vault (requests d (Erase caller r)) (left d (Erase caller r)).vault = g.1 in
+      (locks-sound (key_generated d r) g.0 r blank (alike-free d (key_generated d r) (alike-renewed d (holders_of d r (kind_of d r))) r ∙ p.1.1.0), asked)
   left-kept (Reactivate caller selection policy) e =
       let p = all-passed (reactivate_checks d caller selection policy) (else-none (opening_refusal caller) _ e) in
       let q = or_parts (leb (2 ^ 17) selection) (ltb 1 policy) p.1.1.0 in

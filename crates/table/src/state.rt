@@ -13,7 +13,7 @@ use vault::Vault;
 pub struct Table<'v, V: Vault, N: Numbering> {
     pub(crate) layout: Layout,
     pub(crate) vault: &'v mut V,
-    // Held by reference: by value, whoever lent the vault would not know it again.
+    // Held by reference, so that whoever lent the vault knows it again.
     pub(crate) numbering: &'v N,
     pub(crate) closed: bool,
 }
