@@ -10,7 +10,7 @@ import sys
 
 DECLARED = re.compile(r"^\s*(?:(?:abbrev|unfoldable)\s+)?(?:pub\s+)?(?:(?:abbrev|record|data)\s+)?(?:pub\s+)?([^\s:()→λ.,∷=∙|]+)(?:\s+\([^=]*\))?\s+:\s+(.*)$")
 FACT = re.compile(r"(→\s*|^)Type 0( where)?\s*$")
-# Two names would fall together with a field, with another definition or with a word of the library.
+# Respelled by rule, these would fall together with a field or with another name.
 CHOSEN = {
     "readLocked": "is_read_locked",
     "writeLocked": "is_write_locked",

@@ -2,6 +2,8 @@
 use Rattle.std.specs.Prelude.{◌≡◌, Bool, true, false, List, [], ◌∷◌, Ok, Err, Result}
 use Rattle.rules.specs.declared.call.Answer.{Answer}
 use Rattle.rules.specs.declared.call.Answer.TheVariants as answers
+use Rattle.rules.specs.declared.call.Call.{Call}
+use Rattle.rules.specs.declared.call.Call.TheVariants.{Assign, Deassign, SetRange, SetLocks, GenKey, Erase, Reactivate, Create, Delete, Format, Reset}
 use Rattle.rules.specs.declared.cause.Cause.{Cause}
 use Rattle.rules.specs.Calls as calls
 use Rattle.rules.specs.Drive.{Drive}
@@ -36,6 +38,27 @@ left_by d asks.Unused = d
 left_by d (asks.Controls unit block) = d
 left_by d (asks.Access access unit start count) = d
 left_by d (asks.ReadRow row) = d
+
+-- the calls and questions that there is code for
+abbrev pub is_built_call : Call → Bool
+is_built_call (Assign caller n start length standing) = false
+is_built_call (Deassign caller r keep) = false
+is_built_call (SetRange caller r start length) = false
+is_built_call (SetLocks caller r flags) = false
+is_built_call (GenKey caller r) = false
+is_built_call (Erase caller r) = false
+is_built_call (Reactivate caller selection policy) = false
+is_built_call (Create n blocks) = true
+is_built_call (Delete n) = true
+is_built_call (Format n) = false
+is_built_call (Reset caller) = false
+
+abbrev pub is_built : Ask → Bool
+is_built (asks.Call call) = is_built_call call
+is_built asks.Unused = true
+is_built (asks.Controls unit block) = true
+is_built (asks.Access access unit start count) = false
+is_built (asks.ReadRow row) = false
 
 -- a step that is shown by a run asks for no proof
 abbrev pub wanted : Shown → Type 0 → Type 0

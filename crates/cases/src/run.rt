@@ -1,5 +1,5 @@
-ghost use Rattle.std.specs.Prelude.{◌≡◌, true, false, IfSome, Some, MatchOption, ◌≢◌};
-ghost use Rattle.cases.specs.Sequence.{reply_to, left_by, comparable};
+ghost use Rattle.std.specs.Prelude.{◌≡◌, true, false, IfSome, Some, MatchOption, ◌≢◌, is_some};
+ghost use Rattle.cases.specs.Sequence.{reply_to, left_by, is_built, comparable};
 
 use crate::sequence::*;
 use rules::call::*;
@@ -9,6 +9,7 @@ use table::calls::*;
 /// Asks a table, and gives what comes back; nothing where there is no code for it yet.
 pub fn make<C: Calls>(table: &mut C, ask: Ask) -> Option<Reply>
     ensures lent { C.lenders table.new ≡ C.lenders table.old }
+    ensures built { is_some result ≡ is_built ask }
     ensures reply { IfSome result (λ reply. reply ≡ reply_to (C.model table.old) ask) }
     ensures after { MatchOption result (table.new ≡ table.old) (λ _. C.model table.new ≡ left_by (C.model table.old) ask) }
 {
@@ -16,6 +17,12 @@ pub fn make<C: Calls>(table: &mut C, ask: Ask) -> Option<Reply>
         Ask::Call {
             call: Call::Create { unit, blocks },
         } => match table.create(unit, blocks) {
+            Ok(()) => Some(Reply::Answered(Answer::Success)),
+            Err(cause) => Some(Reply::Answered(Answer::Refused(cause))),
+        },
+        Ask::Call {
+            call: Call::Delete { unit },
+        } => match table.delete(unit) {
             Ok(()) => Some(Reply::Answered(Answer::Success)),
             Err(cause) => Some(Reply::Answered(Answer::Refused(cause))),
         },
