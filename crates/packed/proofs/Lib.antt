@@ -1,3 +1,3 @@
 pub mod Search
 pub mod Order
-pub mod Rotation
+pub mod Place

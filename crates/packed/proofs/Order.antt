@@ -1,7 +1,7 @@
 -- Laws of lists that rise by number.
-use Rattle.std.proofs.Common.{◌≡◌, ℕ, suc, ◌≤◌, Bool, true, false, cond, ◌||◌, eqb, leb, List, [], ◌∷◌, length, get_or, is_some, Some, None, refl, arith}
+use Rattle.std.proofs.Common.{◌≡◌, ℕ, suc, ◌≤◌, Bool, true, false, cond, ◌||◌, eqb, List, [], ◌∷◌, length, get_or, is_some, Some, None, refl, arith}
 use Rattle.std.proofs.lemmas.Bool.Decides.{nat_tests}
-use Rattle.std.specs.List.{insert as inserted, remove as removed}
+use Rattle.std.specs.List.{list_any, remove as removed}
 use Rattle.packed.specs.First.{first}
 use Rattle.packed.specs.Rising.{rises, has, lookup, insert, remove}
 use Rattle.packed.proofs.Search.{when-found, when-absent}
@@ -56,7 +56,13 @@ module _ {A : Type 0} (key : A → ℕ) where
       go true h = refl
       go false h = h
 
-  -- where a search for the number k, or for what is not below a new element, came out
+  -- the library's word for it
+  pub any-is-has : (k : ℕ) (xs : List A) → list_any (λ x. eqb (key x) k) xs ≡ has key k xs
+  unfolding has
+  any-is-has k [] = refl
+  any-is-has k (x ∷ xs) = let h = any-is-has k xs in grind (arith, nat_tests)
+
+  -- where a search for the number k came out
   module _ (k : ℕ) where
     pub lookup-found : (xs : List A) (i : ℕ) → first (λ x. eqb (key x) k) xs ≡ Some i → (d : A) → lookup key k xs ≡ Some (get_or xs i d)
     unfolding lookup
@@ -70,23 +76,6 @@ module _ {A : Type 0} (key : A → ℕ) where
     unfolding remove
     remove-found = when-found (λ x. eqb (key x) k) (λ xs i. remove key k xs ≡ removed xs i) (λ x xs t. rw t) (λ x xs j t h. rw (t, h))
 
-    pub lookup_absent : (xs : List A) → first (λ x. eqb (key x) k) xs ≡ None → lookup key k xs ≡ None
-    unfolding lookup
-    lookup_absent = when-absent (λ x. eqb (key x) k) (λ xs. lookup key k xs ≡ None) refl (λ x xs t h. rw (t, h))
-
     pub has-absent : (xs : List A) → first (λ x. eqb (key x) k) xs ≡ None → has key k xs ≡ false
     unfolding has
     has-absent = when-absent (λ x. eqb (key x) k) (λ xs. has key k xs ≡ false) refl (λ x xs t h. rw (t, h))
-
-    pub remove_absent : (xs : List A) → first (λ x. eqb (key x) k) xs ≡ None → remove key k xs ≡ xs
-    unfolding remove
-    remove_absent = when-absent (λ x. eqb (key x) k) (λ xs. remove key k xs ≡ xs) refl (λ x xs t h. rw (t, h))
-
-  module _ (x : A) where
-    pub insert-found : (ys : List A) (i : ℕ) → first (λ y. leb (key x) (key y)) ys ≡ Some i → insert key x ys ≡ inserted ys i x
-    unfolding insert
-    insert-found = when-found (λ y. leb (key x) (key y)) (λ ys i. insert key x ys ≡ inserted ys i x) (λ y ys t. grind (arith, nat_tests)) (λ y ys j t h. grind (arith, nat_tests))
-
-    pub insert-absent : (ys : List A) → first (λ y. leb (key x) (key y)) ys ≡ None → insert key x ys ≡ inserted ys (length ys) x
-    unfolding insert
-    insert-absent = when-absent (λ y. leb (key x) (key y)) (λ ys. insert key x ys ≡ inserted ys (length ys) x) refl (λ y ys t h. grind (arith, nat_tests))

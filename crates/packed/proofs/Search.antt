@@ -1,40 +1,16 @@
 -- Facts of the first element that passes a test, and the steps of a loop that looks for it.
-use Rattle.std.proofs.Common.{◌≡◌, ℕ, suc, ◌+◌, ◌<◌, ◌≤◌, Bool, true, false, cond, ◌⊎◌, List, [], ◌∷◌, length, get_or, drop, Some, None, Option, sym, refl, ap, subst, inl, inr, add-zero, zero-add, arith}
-use Rattle.std.proofs.lemmas.List.{drop_more, drop_all}
+use Rattle.std.proofs.Common.{◌≡◌, ℕ, suc, ◌<◌, Bool, true, false, not, cond, ◌⊎◌, List, [], ◌∷◌, length, get_or, Some, None, Option, sym, refl, subst, inl, inr, arith}
+use Rattle.std.proofs.lemmas.Bool.Decides.{nat_tests}
+use Rattle.std.proofs.lemmas.List.Sums.{prefix_len-le-length}
+use Rattle.std.specs.List.{position}
 use Rattle.std.specs.Option.{option_map}
 use Rattle.packed.specs.First.{first}
 
--- a place in what is left after i elements, as a place in the whole
-abbrev pub beyond : ℕ → Option ℕ → Option ℕ
-beyond i o = option_map (λ k. i + k) o
-
-beyond-none : (o : Option ℕ) → beyond 0 o ≡ o
-beyond-none None = refl
-beyond-none (Some k) = ap Some (zero-add k)
-
-beyond-more : (i : ℕ) (o : Option ℕ) → beyond (i + 1) o ≡ beyond i (option_map suc o)
-beyond-more i None = refl
-beyond-more i (Some k) = let e : (i + 1) + k ≡ i + suc k = omega arith in ap Some e
-
-module _ {A : Type 0} (test : A → Bool) (xs : List A) where
-  pub search-none : beyond 0 (first test (drop 0 xs)) ≡ first test xs
-  search-none = beyond-none (first test xs)
-
-  module _ (i : ℕ) (l : i < length xs) (x : A) (is : x ≡ get_or xs i x) where
-    front : drop i xs ≡ x ∷ drop (i + 1) xs
-    front = rw (sym is) at (drop_more xs i x l)
-
-    pub search-more : test x ≡ false → beyond (i + 1) (first test (drop (i + 1) xs)) ≡ beyond i (first test (drop i xs))
-    unfolding first
-    search-more f = rw (front, f) (beyond-more i (first test (drop (i + 1) xs)))
-
-    pub search-stop : test x ≡ true → beyond i (first test (drop i xs)) ≡ Some i
-    unfolding first
-    search-stop f = rw (front, f, add-zero)
-
-  pub search-all : (i : ℕ) → length xs ≤ i → beyond i (first test (drop i xs)) ≡ None
-  unfolding first
-  search-all i l = rw (drop_all i xs l)
+-- the library's word for the place
+pub position-is-first : {A : Type 0} (test : A → Bool) (xs : List A) → position test xs ≡ first test xs
+unfolding first
+position-is-first test [] = refl
+position-is-first test (x ∷ xs) = let h = position-is-first test xs in let n = prefix_len-le-length (λ x. not (test x)) xs in grind (arith, nat_tests)
 
 -- how a search that found something went at its first element
 some-parts : (b : Bool) (o : Option ℕ) (i : ℕ) → cond b (Some 0) (option_map suc o) ≡ Some i → ((b ≡ true) × (i ≡ 0)) ⊎ ((b ≡ false) × (j : ℕ) × (o ≡ Some j) × (i ≡ suc j))

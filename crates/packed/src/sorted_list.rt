@@ -1,0 +1,95 @@
+ghost use Rattle.std.specs.Prelude.{◌≡◌, ℕ, ◌<◌, ◌≤◌, false, List, [], length, is_some, Some, IfOk, IfErr, ◌==◌};
+ghost use Rattle.packed.specs.First.{first};
+ghost use Rattle.packed.specs.Rising.{has, lookup, insert, remove};
+ghost use Rattle.packed.specs.Place.{IsGapFor};
+
+use crate::Keyed;
+use arrayvec::ArrayVec;
+use std::marker::Model;
+
+/// At most `CAP` elements, packed in rising order of their numbers. No two have the same.
+#[derive(Drop)]
+pub struct SortedList<T: Keyed, const CAP: usize> {
+    items: ArrayVec<T, CAP>,
+}
+
+impl<T: Keyed, const CAP: usize> Model for SortedList<T, CAP> {
+    ghost use Rattle.std.specs.Prelude.{◌≡◌, ◌≤◌, List, true, length};
+    ghost use Rattle.packed.specs.Rising.{rises};
+
+    ghost Value = { List T };
+
+    ghost view = { λ l. l.items.items };
+
+    ghost invariant = { λ l. (rises T.Keyed.key 0 l.items.items ≡ true) × (length l.items.items ≤ CAP) };
+}
+
+impl<T: Keyed + Copy + Default, const CAP: usize> SortedList<T, CAP> {
+    /// No elements.
+    pub fn new() -> Self
+        ensures { result ≡ [] }
+    {
+        SortedList {
+            items: ArrayVec::new(),
+        }
+    }
+
+    /// The elements in rising order.
+    pub fn as_slice(&self) -> &[T]
+        ensures value { result.now ≡ self.now }
+        ensures fits { length self.now ≤ CAP }
+    {
+        self.items.as_slice()
+    }
+
+    // Where the number is, or where it would go.
+    fn search(&self, number: u32) -> Result<usize, usize>
+        ensures found { IfOk result (λ i. first (λ x. T.Keyed.key x == number) self.now ≡ Some i) }
+        ensures within { IfOk result (λ i. i < length self.now) }
+        ensures absent { IfErr result (IsGapFor T.Keyed.key self.now number) }
+    {
+        self.items.binary_search_by_key(&number, |x| x.key_of())
+    }
+
+    /// Whether some element has this number.
+    pub fn contains(&self, number: u32) -> bool
+        ensures { result ≡ has T.Keyed.key number self.now }
+    {
+        self.search(number).is_ok()
+    }
+
+    /// The element that has this number.
+    pub fn get(&self, number: u32) -> Option<T>
+        ensures found { result ≡ lookup T.Keyed.key number self.now }
+        ensures there { is_some result ≡ has T.Keyed.key number self.now }
+    {
+        match self.search(number) {
+            Ok(at) => Some(self.items[at]),
+            Err(_) => None,
+        }
+    }
+
+    /// Puts a new element into its place.
+    pub fn insert(&mut self, new: T)
+        requires room { length self.old < CAP }
+        requires fresh { has T.Keyed.key (T.Keyed.key new) self.old ≡ false }
+        ensures { self.new ≡ insert T.Keyed.key new self.old }
+    {
+        match self.search(new.key_of()) {
+            Ok(_) => (),
+            Err(at) => self.items.insert(at, new),
+        }
+    }
+
+    /// Takes the element that has this number out.
+    pub fn remove(&mut self, number: u32) -> Option<T>
+        ensures taken { result ≡ lookup T.Keyed.key number self.old }
+        ensures there { is_some result ≡ has T.Keyed.key number self.old }
+        ensures left { self.new ≡ remove T.Keyed.key number self.old }
+    {
+        match self.search(number) {
+            Ok(at) => Some(self.items.remove(at)),
+            Err(_) => None,
+        }
+    }
+}
