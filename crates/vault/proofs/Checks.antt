@@ -1,16 +1,29 @@
 -- What follows where a call is refused, and where it is accepted.
-use Rattle.std.proofs.Common.{◌≡◌, Some, None, Ok, Err, Option, Result, sym, ap}
-use Rattle.vault.specs.Checks.{answer, unless}
+use Rattle.std.proofs.Common.{◌≡◌, Bool, true, false, cond, List, [], ◌∷◌, Some, None, Ok, Err, Option, Result, refl}
+use Rattle.std.specs.List.{AllByRecursion}
+use Rattle.vault.specs.Checks.{first_of, answer, unless}
 
-module _ {C : Type 0} (refusal : Option C) where
-  pub refused : {A : Type 0} (c : C) (done : A) → refusal ≡ Some c → ◌≡◌ {A = Result A C} (Err c) (answer refusal done)
-  refused c done e = ap (λ (o : Option C). answer o done) (sym e)
+module _ {A C : Type 0} (done : A) where
+  pub accepted : (refusal : Option C) → ◌≡◌ {A = Result A C} (Ok done) (answer refusal done) → refusal ≡ None
+  accepted None e = refl
+  accepted (Some c) e = absurd (cc)
 
-  pub unchanged : {S : Type 0} (c : C) (was after : S) → refusal ≡ Some c → was ≡ unless refusal was after
-  unchanged c was after e = ap (λ (o : Option C). unless o was after) (sym e)
+  pub unchanged : {S : Type 0} (c : C) (was after : S) (refusal : Option C) → ◌≡◌ {A = Result A C} (Err c) (answer refusal done) → was ≡ unless refusal was after
+  unchanged c was after None e = absurd (cc)
+  unchanged c was after (Some d) e = refl
 
-  pub accepted : {A : Type 0} (done : A) → refusal ≡ None → ◌≡◌ {A = Result A C} (Ok done) (answer refusal done)
-  accepted done e = ap (λ (o : Option C). answer o done) (sym e)
+  pub changed : {S : Type 0} (was after : S) (refusal : Option C) → ◌≡◌ {A = Result A C} (Ok done) (answer refusal done) → after ≡ unless refusal was after
+  changed was after None e = refl
+  changed was after (Some c) e = absurd (cc)
 
-  pub changed : {S : Type 0} (was after : S) → refusal ≡ None → after ≡ unless refusal was after
-  changed was after e = ap (λ (o : Option C). unless o was after) (sym e)
+-- none of the checks applied
+abbrev pub Passed : {C : Type 0} → List (Bool × C) → Type 0
+Passed checks = AllByRecursion (λ check. check.0 ≡ false) checks
+
+pub all-passed : {C : Type 0} (checks : List (Bool × C)) → first_of checks ≡ None → Passed checks
+all-passed [] e = tt
+all-passed (check ∷ checks) e = go check.0 e (all-passed checks)
+  where
+    go : (b : Bool) → cond b (Some check.1) (first_of checks) ≡ None → (first_of checks ≡ None → Passed checks) → (b ≡ false) × Passed checks
+    go true e rest = absurd (cc)
+    go false e rest = (refl, rest e)

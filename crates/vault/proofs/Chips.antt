@@ -1,22 +1,22 @@
 -- The registers of a chip as a vault.
-use Rattle.std.proofs.Common.{◌≡◌, ℕ, ◌<◌, ◌≤◌, Bool, true, false, not, ◌&&◌, eqb, List, [], ◌∷◌, length, get_or, take, set, Some, None, Ok, Err, Option, refl, ap, ◌∙◌, arith}
+use Rattle.std.proofs.Common.{◌≡◌, ℕ, ◌<◌, ◌≤◌, Bool, true, false, not, ◌&&◌, eqb, List, [], ◌∷◌, length, get_or, take, set, Some, None, Ok, Err, Option, sym, refl, ap, ◌∙◌, arith}
+use Rattle.std.specs.Option.{unwrap_or}
 use lib.Seq.{take-set-lt}
 use Rattle.std.proofs.lemmas.Bool.Decides.{nat_tests}
-use Rattle.std.proofs.lemmas.Bool.{eqb-true}
-use Rattle.std.proofs.lemmas.List.{length-take-le, length-set, take_all}
+use Rattle.std.proofs.lemmas.Bool.{eqb-true, true≢false}
+use Rattle.std.proofs.lemmas.List.{length-take-le, take_all}
 use Rattle.vault.specs.declared.refusal.VaultRefusal.{VaultRefusal}
 use Rattle.vault.specs.declared.refusal.VaultRefusal.TheVariants.{Unfit}
-use Rattle.vault.specs.Checks.{first_of, answer, unless}
+use Rattle.vault.specs.Checks.{first_of, answer}
 use Rattle.packed.specs.First.{first}
 use Rattle.packed.specs.Rising.{rises}
 use Rattle.packed.proofs.Search.{found_within, found-passes}
-use Rattle.packed.proofs.Order.{has-found, has-absent}
+use Rattle.packed.proofs.Order.{has-absent}
 use Rattle.vault.specs.Serials.{holds, adds, drops, collect}
-use Rattle.vault.specs.Meaning.{Outcome, sound, with_held}
-use Rattle.vault.specs.Kinds.{chip_check, chip_meaning, fit, lowest, nothing}
-use Rattle.vault.proofs.Checks.{accepted, changed}
+use Rattle.vault.specs.Meaning.{Meaning, Outcome, sound, with_held, put_answer, swap_answer, drop_answer}
+use Rattle.vault.specs.Kinds.{chip_check, chip_meaning, fit, lowest, overwritten, nothing}
 use Rattle.vault.proofs.Words.{rises-collect, length-collect, holds-collect, holds-zero, collect-set, collect-clear, collect-swap}
-use Rattle.vault.proofs.Requests.{sound-from}
+use Rattle.vault.proofs.Requests.{sound-from, put-passed, swap-passed, drop-passed}
 
 pub fit-true : (words : List ℕ) → ◌≡◌ {A = Outcome} (Ok tt) (chip_check words) → fit words ≡ true
 fit-true words e = go (fit words) e
@@ -48,67 +48,69 @@ unfolding collect
 none-in-use words = refl
 
 module _ (used : ℕ) (words : List ℕ) (le : used ≤ length words) where
+  abbrev meaning : Meaning
+  meaning = chip_meaning used words
+
   size : length (take used words) ≡ used
   size = length-take-le used words le
 
   pub holds-serial : (s : ℕ) → holds s (collect (take used words)) ≡ (not (eqb s 0) && holds s (take used words))
   holds-serial s = holds-collect s (take used words)
 
-  -- no register is 0: the vault is full
-  pub full : first (λ w. eqb w 0) (take used words) ≡ None → used ≤ length (collect (take used words))
-  full e = let h = has-absent (λ w. w) 0 (take used words) e in let k = holds-zero (take used words) in let n = size in grind (arith, nat_tests)
+  -- a register in use that has the word w
+  module _ (w : ℕ) (there : holds w (take used words) ≡ true) where
+    pub found : first (λ v. eqb v w) (take used words) ≡ Some (lowest used words w)
+    found = go (first (λ v. eqb v w) (take used words)) (has-absent (λ v. v) w (take used words))
+      where
+        go : (o : Option ℕ) → (o ≡ None → holds w (take used words) ≡ false) → o ≡ Some (unwrap_or o used)
+        go (Some i) absent = refl
+        go None absent = absurd (true≢false (sym there ∙ absent refl))
 
-  -- a word that is held stands somewhere
-  pub somewhere : (s : ℕ) → holds s (collect (take used words)) ≡ true → first (λ w. eqb w s) (take used words) ≡ None → ⊥
-  somewhere s h e = let a = has-absent (λ w. w) s (take used words) e in let k = holds-serial s in let z : ◌≡◌ {A = ℕ} 0 1 = grind (arith, nat_tests) in omega arith
+    pub place : lowest used words w < used
+    place = omega (arith, found_within (λ v. eqb v w) (take used words) (lowest used words w) found, size)
 
-  module _ (s i : ℕ) (found : first (λ w. eqb w s) (take used words) ≡ Some i) where
-    pub place : i < used
-    place = omega (arith, found_within (λ w. eqb w s) (take used words) i found, size)
-
-    inside : i < length (take used words)
+    inside : lowest used words w < length (take used words)
     inside = omega (arith, place, size)
 
-    word : get_or (take used words) i 0 ≡ s
-    word = eqb-true (get_or (take used words) i 0) s (found-passes (λ w. eqb w s) (take used words) i found 0)
+    word : get_or (take used words) (lowest used words w) 0 ≡ w
+    word = eqb-true (get_or (take used words) (lowest used words w) 0) w (found-passes (λ v. eqb v w) (take used words) (lowest used words w) found 0)
 
-    written : (t : ℕ) → take used (set words i t) ≡ set (take used words) i t
-    written t = take-set-lt used words i t place
+    -- what the chip means with t in its place
+    meant : (t : ℕ) (next : List ℕ) → collect (set (take used words) (lowest used words w) t) ≡ next → chip_meaning used (overwritten used words w t) ≡ with_held meaning next
+    meant t next e = ap (with_held meaning) (ap collect (take-set-lt used words (lowest used words w) t place) ∙ e)
 
-    lowest-is : i ≡ lowest used words s
-    lowest-is = rw found
+  -- ---- what an accepted request has passed, and what it leaves
+  nonzero : (s : ℕ) → holds s meaning.held ≡ true → (s ≡ 0 → ⊥) × (holds s (take used words) ≡ true)
+  nonzero s h = let k = holds-serial s in ((λ z. let z' : ◌≡◌ {A = ℕ} 0 1 = grind (arith, nat_tests) in omega arith), grind (arith, nat_tests))
 
-    -- a chip in which the register that has s gets t, where an accepted request says so
-    module _ (t : ℕ) (next : List ℕ) (e : collect (set (take used words) i t) ≡ next) where
-      meant : chip_meaning used (set words i t) ≡ with_held (chip_meaning used words) next
-      meant = ap (with_held (chip_meaning used words)) (ap collect (written t) ∙ e)
+  module _ (s : ℕ) (e : ◌≡◌ {A = Outcome} (Ok tt) (put_answer meaning s)) where
+    pub put-there : holds 0 (take used words) ≡ true
+    put-there = let p = put-passed meaning s e in let k = holds-zero (take used words) in let n = size in grind (arith, nat_tests)
 
-      pub done : (refusal : Option VaultRefusal) → refusal ≡ None
-          → (◌≡◌ {A = Outcome} (Ok tt) (answer refusal tt))
-          × (chip_meaning used (set words i t) ≡ unless refusal (chip_meaning used words) (with_held (chip_meaning used words) next))
-          × (set words i t ≡ unless refusal words (set words (lowest used words s) t))
-      done refusal r = (
-        accepted refusal tt r,
-        meant ∙ changed refusal (chip_meaning used words) (with_held (chip_meaning used words) next) r,
-        ap (λ n. set words n t) lowest-is ∙ changed refusal words (set words (lowest used words s) t) r,
-      )
+    pub put-leaves : chip_meaning used (overwritten used words 0 s) ≡ with_held meaning (adds s meaning.held)
+    put-leaves =
+        let p = put-passed meaning s e in
+        meant 0 put-there s _ (collect-set (take used words) (lowest used words 0) s (inside 0 put-there) (word 0 put-there) (grind (arith, nat_tests)))
 
-      pub still : sound (with_held (chip_meaning used words) next) ≡ true → used ≤ 64
-          → ((used ≤ length (set words i t)) × (used ≤ 64)) × (sound (chip_meaning used (set words i t)) ≡ true)
-      still k b = ((simp length-set le, b), ap sound meant ∙ k)
+  module _ (s t : ℕ) (e : ◌≡◌ {A = Outcome} (Ok tt) (swap_answer meaning s t)) where
+    pub swap-there : holds s (take used words) ≡ true
+    swap-there = (nonzero s (swap-passed meaning s t e).0).1
 
-    pub swapped : (s ≡ 0 → ⊥) → (t : ℕ) → (t ≡ 0 → ⊥) → collect (set (take used words) i t) ≡ adds t (drops s (collect (take used words)))
-    swapped = collect-swap (take used words) i s inside word
+    pub swap-leaves : chip_meaning used (overwritten used words s t) ≡ with_held meaning (adds t (drops s meaning.held))
+    swap-leaves =
+        let p = swap-passed meaning s t e in
+        meant s swap-there t _ (collect-swap (take used words) (lowest used words s) s (inside s swap-there) (word s swap-there) (nonzero s p.0).0 t (grind (arith, nat_tests)))
 
-    pub cleared : (s ≡ 0 → ⊥) → collect (set (take used words) i 0) ≡ drops s (collect (take used words))
-    cleared = collect-clear (take used words) i s inside word
+  module _ (s : ℕ) (e : ◌≡◌ {A = Outcome} (Ok tt) (drop_answer meaning s)) where
+    pub drop-there : holds s (take used words) ≡ true
+    drop-there = (nonzero s (drop-passed meaning s e)).1
 
-  pub nonzero : (s : ℕ) → holds s (collect (take used words)) ≡ true → s ≡ 0 → ⊥
-  nonzero s h z = let k = holds-serial s in let z' : ◌≡◌ {A = ℕ} 0 1 = grind (arith, nat_tests) in omega arith
+    pub drop-leaves : chip_meaning used (overwritten used words s 0) ≡ with_held meaning (drops s meaning.held)
+    drop-leaves =
+        let h = nonzero s (drop-passed meaning s e) in
+        meant s drop-there 0 _ (collect-clear (take used words) (lowest used words s) s (inside s drop-there) (word s drop-there) h.0)
 
-  module _ (i : ℕ) (found : first (λ w. eqb w 0) (take used words) ≡ Some i) where
-    pub filled : (s : ℕ) → (s ≡ 0 → ⊥) → collect (set (take used words) i s) ≡ adds s (collect (take used words))
-    filled s n = collect-set (take used words) i s (inside 0 i found) (word 0 i found) n
-
-    pub free : length (collect (take used words)) < used
-    free = let h = has-found (λ w. w) 0 (take used words) i found in let k = holds-zero (take used words) in let n = size in grind (arith, nat_tests)
+  -- what the chip then means, as the definitions of the requests say it
+  module _ (e' : ℕ) (words' : List ℕ) (same : e' ≡ used) where
+    pub then-means : (old new : ℕ) → words' ≡ overwritten used words old new → {after : Meaning} → chip_meaning used (overwritten used words old new) ≡ after → chip_meaning e' words' ≡ after
+    then-means old new w e = ap (λ n. chip_meaning n words') same ∙ ap (chip_meaning used) w ∙ e

@@ -1,7 +1,9 @@
--- The set of the words that are not 0, and the steps of the loops over words.
-use Rattle.std.proofs.Common.{◌≡◌, ℕ, zero, suc, ◌+◌, ◌-◌, ◌<◌, ◌≤◌, Bool, true, false, not, ◌&&◌, ◌||◌, eqb, ltb, List, [], ◌∷◌, length, get_or, take, drop, set, sym, refl, ap, ◌∙◌, arith}
+-- The set of the words that are not 0.
+use Rattle.std.proofs.Common.{◌≡◌, ℕ, zero, suc, ◌<◌, ◌≤◌, true, false, not, cond, ◌&&◌, eqb, ltb, List, [], ◌∷◌, length, get_or, set, sym, refl, ap, ◌∙◌, arith}
 use Rattle.std.proofs.lemmas.Bool.Decides.{nat_tests}
-use Rattle.std.proofs.lemmas.List.{set-set, set-get_or, get_or-set_same, length-set, drop_more, drop_all, take_rest}
+use Rattle.std.proofs.lemmas.List.{set-set, set-get_or, get_or-set_same, length-set}
+use Rattle.std.proofs.lemmas.List.Sums.{sum_by-cons}
+use Rattle.std.specs.List.{count_by}
 use Rattle.packed.specs.Rising.{has, insert, rises}
 use Rattle.packed.proofs.Order.{remove-insert, has-insert, length-insert, rises-insert}
 use Rattle.vault.specs.Serials.{set_of_serials, holds, adds, drops, collect, distinct}
@@ -55,39 +57,22 @@ module _ (xs : List ℕ) (i s : ℕ) (l : i < length xs) (e : get_or xs i 0 ≡ 
       let h = collect-set (set xs i 0) i t within (get_or-set_same xs i 0 0 l) m in
       ap collect (sym (set-set xs i 0 t)) ∙ h ∙ ap (adds t) collect-clear
 
--- ---- the steps of the loops
-module _ (xs : List ℕ) (i : ℕ) where
-  pub count-blank : i < length xs → get_or xs i 0 ≡ 0 → length (collect (drop i xs)) ≡ length (collect (drop (i + 1) xs))
-  unfolding collect
-  count-blank l h = rw (drop_more xs i 0 l) (grind (arith, nat_tests))
+-- ---- how many words are not 0
+pub count-words : (xs : List ℕ) → count_by (λ x. not (eqb x 0)) xs ≡ length (collect xs)
+unfolding collect
+count-words [] = refl
+count-words (x ∷ xs) = let h = count-words xs in let c = sum_by-cons (λ x. cond (not (eqb x 0)) 1 0) x xs in let k = length-insert (λ y. y) x (collect xs) in grind (arith, nat_tests)
 
-  pub count-more : i < length xs → (get_or xs i 0 ≡ 0 → ⊥) → length (collect (drop i xs)) ≡ length (collect (drop (i + 1) xs)) + 1
-  unfolding collect
-  count-more l h = rw (drop_more xs i 0 l) (let k = length-insert (λ y. y) (get_or xs i 0) (collect (drop (i + 1) xs)) in grind (arith, nat_tests))
-
-  pub count-end : length xs ≤ i → length (collect (drop i xs)) ≡ 0
-  unfolding collect
-  count-end l = rw (drop_all i xs l)
-
-  pub distinct_more : i < length xs → distinct (drop i xs) ≡ ((eqb (get_or xs i 0) 0 || not (holds (get_or xs i 0) (drop (i + 1) xs))) && distinct (drop (i + 1) xs))
+-- ---- what the first word tells
+module _ (rest : List ℕ) (w : ℕ) (others : List ℕ) (parts : rest ≡ w ∷ others) where
+  pub distinct-fails : (w ≡ 0 → ⊥) → holds w others ≡ true → distinct rest ≡ false
   unfolding distinct
-  distinct_more l = rw (drop_more xs i 0 l)
+  distinct-fails n h = rw parts (grind (arith, nat_tests))
 
-  pub distinct-end : length xs ≤ i → distinct (drop i xs) ≡ true
+  pub distinct-blank : w ≡ 0 → distinct others ≡ distinct rest
   unfolding distinct
-  distinct-end l = rw (drop_all i xs l)
+  distinct-blank z = rw parts (grind (arith, nat_tests))
 
-  -- what looking for the word at i among those after it tells
-  module _ (l : i < length xs) where
-    pub distinct-blank : get_or xs i 0 ≡ 0 → distinct (drop i xs) ≡ distinct (drop (i + 1) xs)
-    distinct-blank z = let d = distinct_more l in grind (arith, nat_tests)
-
-    module _ (b : Bool) (there : b ≡ holds (get_or xs i 0) (take (length xs - (i + 1)) (drop (i + 1) xs))) where
-      later : holds (get_or xs i 0) (drop (i + 1) xs) ≡ b
-      later = sym (there ∙ ap (holds (get_or xs i 0)) (take_rest xs (i + 1)))
-
-      pub distinct-fails : (get_or xs i 0 ≡ 0 → ⊥) → b ≡ true → distinct (drop i xs) ≡ false
-      distinct-fails n h = let d = distinct_more l in let t = later in grind (arith, nat_tests)
-
-      pub distinct-goes : b ≡ false → distinct (drop i xs) ≡ distinct (drop (i + 1) xs)
-      distinct-goes h = let d = distinct_more l in let t = later in grind (arith, nat_tests)
+  pub distinct-goes : holds w others ≡ false → distinct others ≡ distinct rest
+  unfolding distinct
+  distinct-goes h = rw parts (grind (arith, nat_tests))

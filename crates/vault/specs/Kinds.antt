@@ -18,9 +18,6 @@ can_be_capacity n = nat_le 1 n && nat_le n 64
 abbrev pub file_check : ℕ → Outcome
 file_check capacity = answer (first_of ((not (can_be_capacity capacity), Unfit) ∷ [])) tt
 
-abbrev pub file_meaning : List ℕ → ℕ → ℕ → Meaning
-file_meaning serials len capacity = record { capacity = capacity; held = take len serials }
-
 -- a new key file holds nothing
 abbrev pub file_new : ℕ → Meaning
 file_new capacity = record { capacity = cond (can_be_capacity capacity) capacity 0; held = [] }
@@ -46,12 +43,16 @@ chip_new words = cond (fit words) (record { capacity = length words; held = coll
 abbrev pub lowest : ℕ → List ℕ → ℕ → ℕ
 lowest used words word = unwrap_or (first (λ w. nat_eq w word) (take used words)) used
 
+-- with the word new in its place
+abbrev pub overwritten : ℕ → List ℕ → ℕ → ℕ → List ℕ
+overwritten used words word new = slice_set words (lowest used words word) new
+
 -- Put fills the lowest register that is 0, Swap writes over the old serial, Drop clears it
 abbrev pub chip_put : ℕ → List ℕ → ℕ → List ℕ
-chip_put used words s = unless (put_refusal (chip_meaning used words) s) words (slice_set words (lowest used words 0) s)
+chip_put used words s = unless (put_refusal (chip_meaning used words) s) words (overwritten used words 0 s)
 
 abbrev pub chip_swap : ℕ → List ℕ → ℕ → ℕ → List ℕ
-chip_swap used words old new = unless (swap_refusal (chip_meaning used words) old new) words (slice_set words (lowest used words old) new)
+chip_swap used words old new = unless (swap_refusal (chip_meaning used words) old new) words (overwritten used words old new)
 
 abbrev pub chip_drop : ℕ → List ℕ → ℕ → List ℕ
-chip_drop used words s = unless (drop_refusal (chip_meaning used words) s) words (slice_set words (lowest used words s) 0)
+chip_drop used words s = unless (drop_refusal (chip_meaning used words) s) words (overwritten used words s 0)

@@ -1,23 +1,23 @@
-ghost use Rattle.vault.specs.Kinds.{file_check, file_meaning, file_new};
+ghost use Rattle.vault.specs.Kinds.{file_check, file_new};
 ghost use Rattle.vault.specs.Meaning.{sound};
-ghost use Rattle.vault.specs.Serials.{holds, adds, drops};
-ghost use Rattle.std.specs.Prelude.{◌≡◌, ℕ, ◌+◌, ◌<◌, ◌≤◌, true, false, [], length, take};
+ghost use Rattle.std.specs.Prelude.{◌≡◌, ◌≤◌, ℕ, true, []};
 
-use crate::Vault;
-use crate::refusal::VaultRefusal;
-use packed::{contains, insert_into, take_from};
+use crate::refusal::{VaultRefusal, check_drop, check_put, check_swap};
+use crate::{KeySet, Vault};
+use packed::SortedList;
 
-/// A vault in memory: its serials stand packed at the front of an array, and rise.
+/// A vault in memory of its own: a sorted list of serials.
 #[derive(Drop)]
 pub struct KeyFile {
-    serials: [u32; 64],
-    len: usize,
+    serials: SortedList<u32, 64>,
     capacity: u32,
-    ghost sized: { (length serials ≡ 64) × (len ≤ capacity) × (capacity ≤ 64) },
-    ghost ordered: { sound (file_meaning serials len capacity) ≡ true },
+    ghost small: { capacity ≤ 64 },
+    ghost ordered: { sound (record { capacity = capacity; held = serials }) ≡ true },
 }
 
 impl KeyFile {
+    ghost use Rattle.vault.specs.Views.{file_view};
+
     /// Says whether a key file can have this capacity.
     pub fn check(capacity: u32) -> Result<(), VaultRefusal>
         ensures { result ≡ file_check capacity }
@@ -31,94 +31,54 @@ impl KeyFile {
 
     /// An empty key file. Its capacity is 0 where `check` refuses.
     pub fn new(capacity: u32) -> KeyFile
-        ensures { file_meaning result.serials result.len result.capacity ≡ file_new capacity }
+        ensures { file_view result ≡ file_new capacity }
     {
         let capacity = if capacity <= 64 { capacity } else { 0 };
         KeyFile {
-            serials: [0; 64],
-            len: 0,
+            serials: SortedList::new(),
             capacity,
         }
     }
-
-    fn add(&mut self, serial: u32)
-        requires room { self.old.len < self.old.capacity }
-        requires above { 0 < serial }
-        requires fresh { holds serial (take self.old.len self.old.serials) ≡ false }
-        ensures held { take self.new.len self.new.serials ≡ adds serial (take self.old.len self.old.serials) }
-        ensures capacity { self.new.capacity ≡ self.old.capacity }
-    {
-        let len = self.len;
-        insert_into(&mut self.serials, len, serial);
-        self.len = len + 1;
-    }
-
-    fn cut(&mut self, serial: u32)
-        requires { holds serial (take self.old.len self.old.serials) ≡ true }
-        ensures held { take self.new.len self.new.serials ≡ drops serial (take self.old.len self.old.serials) }
-        ensures len { self.new.len + 1 ≡ self.old.len }
-        ensures capacity { self.new.capacity ≡ self.old.capacity }
-    {
-        let len = self.len;
-        let _ = take_from(&mut self.serials, len, serial);
-        self.len = len - 1;
-    }
 }
 
-impl Vault for KeyFile {
-    ghost meaning = { λ v. file_meaning v.serials v.len v.capacity };
+impl KeySet for KeyFile {
+    ghost meaning = { λ f. record { capacity = f.capacity; held = f.serials } };
 
     // A key file owns its memory.
     ghost lenders = { λ _. [] };
 
-    ghost lawful = { λ v. v.ordered };
+    ghost lawful = { λ f. f.ordered };
 
     fn capacity(&self) -> u32 {
         self.capacity
     }
 
     fn count(&self) -> u32 {
-        self.len as u32
+        self.serials.as_slice().len() as u32
     }
 
     fn holds(&self, serial: u32) -> bool {
-        contains(&self.serials[0..self.len], serial)
+        self.serials.contains(serial)
     }
+}
 
+impl Vault for KeyFile {
     fn put(&mut self, serial: u32) -> Result<(), VaultRefusal> {
-        if serial == 0 {
-            return Err(VaultRefusal::SerialZero);
-        }
-        if self.holds(serial) {
-            return Err(VaultRefusal::AlreadyHeld);
-        }
-        if self.len as u32 >= self.capacity {
-            return Err(VaultRefusal::Full);
-        }
-        self.add(serial);
+        check_put(self, serial)?;
+        self.serials.insert(serial);
         Ok(())
     }
 
     fn swap(&mut self, old: u32, new: u32) -> Result<(), VaultRefusal> {
-        if !self.holds(old) {
-            return Err(VaultRefusal::NotHeld);
-        }
-        if new == 0 {
-            return Err(VaultRefusal::SerialZero);
-        }
-        if self.holds(new) {
-            return Err(VaultRefusal::AlreadyHeld);
-        }
-        self.cut(old);
-        self.add(new);
+        check_swap(self, old, new)?;
+        self.serials.remove(old);
+        self.serials.insert(new);
         Ok(())
     }
 
     fn drop_key(&mut self, serial: u32) -> Result<(), VaultRefusal> {
-        if !self.holds(serial) {
-            return Err(VaultRefusal::NotHeld);
-        }
-        self.cut(serial);
+        check_drop(self, serial)?;
+        self.serials.remove(serial);
         Ok(())
     }
 }

@@ -11,9 +11,8 @@ pub mod refusal;
 
 use refusal::VaultRefusal;
 
-/// A fixed number of places for keys. What a vault answers and does follows from its meaning alone,
-/// so code over vaults is proved once, from these contracts.
-pub trait Vault {
+/// A fixed number of places for keys, and the set of those that are held.
+pub trait KeySet {
     ghost meaning: { Self → Meaning };
 
     // The ghost names of what was lent to the vault, so that the lenders know it again afterwards.
@@ -33,25 +32,29 @@ pub trait Vault {
     /// Whether the key with this serial is held.
     fn holds(&self, serial: u32) -> bool
         ensures { result ≡ holds serial (meaning self.now).held };
+}
 
+/// A key set that takes keys in and lets them go. What it answers and does follows from its meaning alone,
+/// so code over vaults is proved once, from these contracts.
+pub trait Vault: KeySet {
     /// Takes a key in. Refuses serial 0, a serial that is held, and a full vault.
     fn put(&mut self, serial: u32) -> Result<(), VaultRefusal>
-        ensures lent { lenders self.new ≡ lenders self.old }
+        ensures lent { Self.lenders self.new ≡ Self.lenders self.old }
         ensures kept { is_ok result ≡ false → self.new ≡ self.old }
-        ensures answer { result ≡ put_answer (meaning self.old) serial }
-        ensures after { meaning self.new ≡ put_after (meaning self.old) serial };
+        ensures answer { result ≡ put_answer (Self.meaning self.old) serial }
+        ensures after { Self.meaning self.new ≡ put_after (Self.meaning self.old) serial };
 
     /// Puts a new key in the place of an old one. Refuses an old serial that is not held, then as `put` does for the new.
     fn swap(&mut self, old: u32, new: u32) -> Result<(), VaultRefusal>
-        ensures lent { lenders self.new ≡ lenders self.old }
+        ensures lent { Self.lenders self.new ≡ Self.lenders self.old }
         ensures kept { is_ok result ≡ false → self.new ≡ self.old }
-        ensures answer { result ≡ swap_answer (meaning self.old) old new }
-        ensures after { meaning self.new ≡ swap_after (meaning self.old) old new };
+        ensures answer { result ≡ swap_answer (Self.meaning self.old) old new }
+        ensures after { Self.meaning self.new ≡ swap_after (Self.meaning self.old) old new };
 
     /// Eradicates a key. Refuses a serial that is not held.
     fn drop_key(&mut self, serial: u32) -> Result<(), VaultRefusal>
-        ensures lent { lenders self.new ≡ lenders self.old }
+        ensures lent { Self.lenders self.new ≡ Self.lenders self.old }
         ensures kept { is_ok result ≡ false → self.new ≡ self.old }
-        ensures answer { result ≡ drop_answer (meaning self.old) serial }
-        ensures after { meaning self.new ≡ drop_after (meaning self.old) serial };
+        ensures answer { result ≡ drop_answer (Self.meaning self.old) serial }
+        ensures after { Self.meaning self.new ≡ drop_after (Self.meaning self.old) serial };
 }

@@ -1,6 +1,9 @@
-use Rattle.std.proofs.Common.{◌≡◌, drop}
+use Rattle.std.proofs.Common.{◌≡◌, length}
 use Rattle.vault.specs.Serials.{distinct}
 use Rattle.vault.proofs.chip.all_distinct.Given as goal
 
-abbrev pub invariant-loop-i : goal.invariant-loop-i
-invariant-loop-i l = distinct (drop l.i l.xs) ≡ distinct l.xs
+abbrev pub invariant-loop-word : goal.invariant-loop-word
+invariant-loop-word l = distinct l.rest ≡ distinct l.words
+
+abbrev pub decreases-loop-word : goal.decreases-loop-word
+decreases-loop-word l = length l.rest
