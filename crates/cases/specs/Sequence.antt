@@ -1,43 +1,15 @@
 -- What the definitions of the calls give, step by step.
-use Rattle.std.specs.Prelude.{◌≡◌, Bool, true, false, List, [], ◌∷◌, Ok, Err, Result}
-use Rattle.rules.specs.declared.call.Answer.{Answer}
-use Rattle.rules.specs.declared.call.Answer.TheVariants as answers
+use Rattle.std.specs.Prelude.{◌≡◌, Bool, true, false, List, [], ◌∷◌}
+use Rattle.rules.specs.declared.ask.Ask.{Ask}
+use Rattle.rules.specs.declared.ask.Ask.TheVariants as asks
 use Rattle.rules.specs.declared.call.Call.{Call}
 use Rattle.rules.specs.declared.call.Call.TheVariants.{Assign, Deassign, SetRange, SetLocks, GenKey, Erase, Reactivate, Create, Delete, Format, Reset}
-use Rattle.rules.specs.declared.cause.Cause.{Cause}
-use Rattle.rules.specs.Calls as calls
+use Rattle.rules.specs.Asks.{reply_to, left_by}
 use Rattle.rules.specs.Drive.{Drive}
-use Rattle.rules.specs.MoreQuestions as more
-use Rattle.rules.specs.Questions as questions
 use Rattle.rules.specs.Walk.{after_by}
-use Rattle.cases.specs.declared.sequence.Ask.{Ask}
-use Rattle.cases.specs.declared.sequence.Ask.TheVariants as asks
-use Rattle.cases.specs.declared.sequence.Reply.{Reply}
-use Rattle.cases.specs.declared.sequence.Reply.TheVariants as replies
 use Rattle.cases.specs.declared.sequence.Shown.{Shown}
 use Rattle.cases.specs.declared.sequence.Shown.TheVariants.{ByProof, ByRun}
 use Rattle.cases.specs.declared.sequence.Step.{Step}
-
--- a question's outcome, told by how its value is told
-abbrev pub told : {A : Type 0} → (A → Reply) → Result A Cause → Reply
-told tell (Ok value) = tell value
-told tell (Err cause) = replies.Refused cause
-
--- what the definitions reply
-abbrev pub reply_to : Drive → Ask → Reply
-reply_to d (asks.Call call) = replies.Answered (calls.answer d call)
-reply_to d asks.Unused = told replies.Unused (questions.unused_answer d)
-reply_to d (asks.Controls unit block) = told replies.Controls (questions.controls_answer d unit block)
-reply_to d (asks.Access access unit start count) = told (λ _. replies.Granted) (more.access_answer d access unit start count)
-reply_to d (asks.ReadRow row) = told replies.Row (more.read_row_answer d row)
-
--- what they leave: a question changes nothing
-abbrev pub left_by : Drive → Ask → Drive
-left_by d (asks.Call call) = calls.after d call
-left_by d asks.Unused = d
-left_by d (asks.Controls unit block) = d
-left_by d (asks.Access access unit start count) = d
-left_by d (asks.ReadRow row) = d
 
 -- the calls and questions that there is code for
 abbrev pub is_built_call : Call → Bool
@@ -83,18 +55,3 @@ pub record Stage (d : Drive) (steps : List Step) (last : Drive) : Type 0 where
 abbrev pub AllGiven : Drive → List (List Step) → Type 0
 AllGiven d [] = Unit {0}
 AllGiven d (stage ∷ stages) = Given d stage × AllGiven (left_by_all d stage) stages
-
--- ---- the kinds of reply that a run compares
-abbrev pub is_success : Answer → Bool
-is_success answers.Success = true
-is_success (answers.Assigned row) = false
-is_success (answers.SingleUserRows count) = false
-is_success (answers.Refused cause) = false
-
-abbrev pub comparable : Reply → Bool
-comparable (replies.Answered answer) = is_success answer
-comparable (replies.Unused count) = true
-comparable (replies.Controls control) = true
-comparable replies.Granted = false
-comparable (replies.Row fields) = false
-comparable (replies.Refused cause) = false

@@ -1,47 +1,15 @@
+// What the definitions say of the steps is computed, so a proof opens the recursive ones.
+#![tactic(auto, unfolding(packed::specs::First::first, packed::specs::Rising::change, packed::specs::Rising::has, packed::specs::Rising::insert, packed::specs::Rising::lookup, packed::specs::Rising::remove, rules::specs::FreshKeys::fresh_keys, rules::specs::MoreQuestions::first_from, rules::specs::Rows::all_rows, rules::specs::Rows::some_locked))]
+
 ghost use Rattle.cases.specs.Sequence.{Given, Stage, AllGiven};
 ghost use Rattle.cases.specs.Drives.{nvme_start, after_units_made, after_ranges_cut, after_ranges_moved, after_rows_given_up, after_keys_renewed, after_range_locked, scsi_start};
 
 use rules::access::Access;
-use rules::call::*;
+use rules::ask::{Ask, Reply, Told};
+use rules::call::{Accepted, Call};
 use rules::cause::Cause;
-use rules::row::*;
+use rules::row::{Flags, RowFields, Standing};
 use rules::unit::Control;
-
-/// What a drive is asked: a call, or a question.
-#[derive(Clone, Copy)]
-pub enum Ask {
-    Call {
-        call: Call,
-    },
-    Unused,
-    Controls {
-        unit: u32,
-        block: u64,
-    },
-    Access {
-        access: Access,
-        unit: u32,
-        first: u64,
-        count: u64,
-    },
-    ReadRow {
-        row: u32,
-    },
-}
-
-/// What comes back.
-#[derive(Clone, Copy)]
-pub enum Reply {
-    /// The answer of a call.
-    Answered(Answer),
-    Unused(u32),
-    Controls(Control),
-    /// The access is granted.
-    Granted,
-    Row(RowFields),
-    /// A question is refused.
-    Refused(Cause),
-}
 
 /// How a reply is shown to be right: it follows from the definitions, or the program makes the call and compares.
 #[derive(Clone, Copy)]
@@ -108,18 +76,18 @@ macro_rules! ask {
 }
 
 macro_rules! reply {
-    (success) => { Reply::Answered(Answer::Success) };
-    (unit_row($row:expr)) => { Reply::Answered(Answer::Assigned(($row, true))) };
-    (range_row($row:expr)) => { Reply::Answered(Answer::Assigned(($row, false))) };
-    (single_user_rows($count:expr)) => { Reply::Answered(Answer::SingleUserRows($count)) };
-    (refused($cause:expr)) => { Reply::Answered(Answer::Refused($cause)) };
-    (unused($count:expr)) => { Reply::Unused($count) };
-    (control($row:expr, $key:expr)) => { Reply::Controls(Control { row: $row, serial: $key }) };
-    (granted) => { Reply::Granted };
-    (denied($block:expr, $row:expr)) => { Reply::Refused(Cause::BlockLocked { block: $block, row: $row }) };
+    (success) => { Ok(Told::Answered(Accepted::Success)) };
+    (unit_row($row:expr)) => { Ok(Told::Answered(Accepted::Assigned(($row, true)))) };
+    (range_row($row:expr)) => { Ok(Told::Answered(Accepted::Assigned(($row, false)))) };
+    (single_user_rows($count:expr)) => { Ok(Told::Answered(Accepted::SingleUserRows($count))) };
+    (refused($cause:expr)) => { Err($cause) };
+    (unused($count:expr)) => { Ok(Told::Unused($count)) };
+    (control($row:expr, $key:expr)) => { Ok(Told::Controls(Control { row: $row, serial: $key })) };
+    (granted) => { Ok(Told::Granted) };
+    (denied($block:expr, $row:expr)) => { Err(Cause::BlockLocked { block: $block, row: $row }) };
     // of a shared row with start 0, length 0 and blank flags
     (fields($unit:expr, $serial:expr, $is_unit_row:expr)) => {
-        Reply::Row(RowFields {
+        Ok(Told::Row(RowFields {
             unit: $unit,
             serial: $serial,
             start: 0,
@@ -127,7 +95,7 @@ macro_rules! reply {
             flags: BLANK,
             is_unit_row: $is_unit_row,
             standing: Standing::Shared,
-        })
+        }))
     };
 }
 

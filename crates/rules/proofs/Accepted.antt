@@ -1,5 +1,5 @@
 -- What an accepted call has passed.
-use Rattle.std.proofs.Common.{◌≡◌, ℕ, ◌^◌, Bool, true, false, cond, not, ◌&&◌, eqb, leb, List, [], ◌∷◌, length, Some, None, Option, refl, arith}
+use Rattle.std.proofs.Common.{◌≡◌, ℕ, ◌^◌, Bool, true, false, cond, not, ◌&&◌, eqb, leb, List, [], ◌∷◌, length, Some, None, Option, refl}
 use Rattle.std.specs.List.{AllByRecursion}
 use Rattle.vault.specs.Checks.{first_of}
 use Rattle.rules.specs.declared.cause.Cause.{Cause}
@@ -40,10 +40,10 @@ all-passed [] e = tt
 all-passed (check ∷ checks) e = go check.0 refl e (all-passed checks)
   where
     go : (b : Bool) → check.0 ≡ b → cond b (Some check.1) (first_of checks) ≡ None → (first_of checks ≡ None → Passed checks) → (check.0 ≡ false) × Passed checks
-    go true p q ih = absurd (let z : ◌≡◌ {A = ℕ} 0 1 = cc in let b : ⊥ = omega arith in b)
+    go true p q ih = absurd cc
     go false p q ih = (p, ih q)
 
 -- where the session opens and the call is not refused
 pub else-none : (o p : Option Cause) → or_else o p ≡ None → p ≡ None
 else-none None p e = e
-else-none (Some c) p e = absurd (let z : ◌≡◌ {A = ℕ} 0 1 = cc in let b : ⊥ = omega arith in b)
+else-none (Some c) p e = absurd cc

@@ -121,7 +121,7 @@ row-once d h r (RangeRow u s l k) = (tt, tt)
 
 unit-once : (d : Drive) (n : ℕ) → NoRepeat (unit_and_ranges d n)
 unit-once d n = (
-  All-map (λ y. y ≢ TheUnit n) TheRow (all_rows (RangeRowOf n) d.rows) (all_of (λ r. TheRow r ≢ TheUnit n) (λ r e. let z : ◌≡◌ {A = ℕ} 0 1 = cc in omega arith) (all_rows (RangeRowOf n) d.rows)),
+  All-map (λ y. y ≢ TheUnit n) TheRow (all_rows (RangeRowOf n) d.rows) (all_of (λ r. TheRow r ≢ TheUnit n) (λ r e. cc) (all_rows (RangeRowOf n) d.rows)),
   no-repeat-map TheRow (λ a b e. cc) (all_rows (RangeRowOf n) d.rows) (rows-once (RangeRowOf n) d.rows),
 )
 

@@ -1,15 +1,15 @@
 -- What one call can open.
-use Rattle.std.proofs.Common.{◌≡◌, ℕ, ◌<◌, ◌≤◌, Bool, true, false, cond, not, ◌&&◌, ◌||◌, eqb, ltb, ◌≢◌, ◌⊎◌, List, [], ◌∷◌, map, length, set, Some, None, Option, unwrap_or, sym, refl, ap, ◌∙◌, subst, inl, inr, arith}
+use Rattle.std.proofs.Common.{◌≡◌, ℕ, ◌<◌, ◌≤◌, Bool, true, false, cond, not, ◌&&◌, ◌||◌, eqb, ltb, ◌≢◌, ◌⊎◌, List, [], ◌∷◌, map, length, set, Some, None, Ok, Option, unwrap_or, sym, refl, ap, ◌∙◌, subst, inl, inr, arith}
 use Rattle.std.proofs.lemmas.List.{length-map, get_or_past}
 use Rattle.std.proofs.lemmas.Bool.Decides.{nat_tests}
 use Rattle.std.proofs.lemmas.Bool.{cases_Bool, cases_eq, cases_lt, both_ways, and_parts, eqb-true, eq-eqb, ne_eqb, true≢false, not-false, or_parts, cond-true}
 use Rattle.packed.specs.Rising.{lookup}
 use Rattle.packed.proofs.Order.{has-insert}
+use Rattle.vault.specs.Checks as checks
 use Rattle.vault.specs.Checks.{unless}
 use Rattle.rules.specs.declared.access.Access.{Access}
 use Rattle.rules.specs.declared.access.Access.TheVariants.{Read, Write}
-use Rattle.rules.specs.declared.call.Answer.{Answer}
-use Rattle.rules.specs.declared.call.Answer.TheVariants.{Success}
+use Rattle.rules.specs.declared.call.Accepted.TheVariants.{Success}
 use Rattle.rules.specs.declared.call.Call.{Call}
 use Rattle.rules.specs.declared.call.Call.TheVariants.{Assign, Deassign, SetRange, SetLocks, GenKey, Erase, Reactivate, Create, Delete, Format, Reset}
 use Rattle.rules.specs.declared.cause.Cause.{Cause}
@@ -21,19 +21,19 @@ use Rattle.rules.specs.declared.row.Sought.TheVariants.{UnitRowOf, RangeRowOf, R
 use Rattle.rules.specs.declared.row.Standing.{Standing}
 use Rattle.rules.specs.declared.unit.Holder.TheVariants.{TheUnit, TheRow}
 use Rattle.rules.specs.declared.unit.LogicalUnit.{LogicalUnit}
-use Rattle.rules.specs.Calls.{refusal, left, said, after, answer, refused_or}
+use Rattle.rules.specs.Calls.{Answer, refusal, left, said, after, answer}
 use Rattle.rules.specs.Commands.{create_refusal, created, new_unit, deleted, formatted, was_reset}
 use Rattle.rules.specs.Drive.{Drive}
 use Rattle.rules.specs.FreshKeys.{fresh_keys, holders_of, unit_and_ranges}
 use Rattle.rules.specs.Laws.{has_block, block_key, FreshlyKeyed, SetByOwner}
-use Rattle.rules.specs.Methods.{row_of, kind_of, row_locked, assign_checks, assign_refusal, range_row_checks, unit_row_checks, row_to_take, unit_row_assigned, range_row_assigned, assigned, deassign_checks, receiver, range_rows_remain, freed, given_up, set_range_checks, range_set, set_locks_checks, set_locks_refusal, locks_set, key_generated, erased, reactivate_checks, reactivated}
+use Rattle.rules.specs.Methods.{row_of, kind_of, row_locked, assign_refusal, row_to_take, unit_row_assigned, range_row_assigned, assigned, deassign_checks, receiver, range_rows_remain, freed, given_up, set_range_checks, range_set, set_locks_checks, set_locks_refusal, locks_set, key_generated, erased, reactivate_checks, reactivated}
 use Rattle.rules.specs.MoreQuestions.{block_locked}
 use Rattle.rules.specs.Questions.{controlling_row, key_or}
 use Rattle.rules.specs.Rows.{blank, no_row, row, locked_for, locked, lock_enabled, relocked, is_free, with_serial, with_range, with_kind, with_flags, anew, unit_row_of, range_row_of, range_over, suits, lowest_row, is_there, is_free_there, row_under, any_row}
 use Rattle.rules.specs.Sessions.{owner, or_else, opening_refusal}
 use Rattle.rules.specs.Sound.{Sound, is_global}
 use Rattle.rules.specs.Units.{no_unit, exists, unit, with_unit, without_unit}
-use Rattle.rules.proofs.Accepted.{create_checks, Passed, all-passed, else-none}
+use Rattle.rules.proofs.Accepted.{create_checks, all-passed, else-none}
 use Rattle.rules.proofs.Alike.{Alike, alike-renewed, alike-control}
 use Rattle.rules.proofs.Blocks.{key-is, control-is, control-other, control-global, key-new, key-given, renewed-key, under-global}
 use Rattle.rules.proofs.Lookups.{lookup-insert, lookup-remove, has-remove-other, has-remove-same}
@@ -42,7 +42,7 @@ use Rattle.rules.proofs.RowsKept.{within, in_table, not-row-0, none-at, no_other
 use Rattle.rules.proofs.Searches.{found-is, nowhere, written, unwritten, set-alike, lowest-as, control-as, first-same}
 use Rattle.rules.proofs.Selections.{map-alike, row-map}
 use Rattle.rules.proofs.Sounds.{take-free}
-use Rattle.rules.proofs.Steps.{left-kept}
+use Rattle.rules.proofs.Steps.{branch-passed, left-kept}
 
 -- ---- flags
 unlocked : (access : Access) (f : Flags) → locked f ≡ false → locked_for access f ≡ false
@@ -109,7 +109,7 @@ module _ (access : Access) (n block : ℕ) where
     locks-other : controlling_row d.rows n block ≢ r → shut_to d ≡ true → shut_to (locks_set d r flags) ≡ false → ⊥
     locks-other ne t f = nothing d (locks_set d r flags) refl (locked-as d.rows (set d.rows r new) locks-control (ap (λ (y : Row). y.flags) (unwritten d.rows r new (controlling_row d.rows n block) ne))) t f
 
-  set-locks-opens : (d : Drive) (caller r : ℕ) (flags : Flags) → or_else (opening_refusal caller) (set_locks_refusal d caller r) ≡ None → shut_to d ≡ true → shut_to (locks_set d r flags) ≡ false → SetByOwner d n block (SetLocks caller r flags) Success
+  set-locks-opens : (d : Drive) (caller r : ℕ) (flags : Flags) → or_else (opening_refusal caller) (set_locks_refusal d caller r) ≡ None → shut_to d ≡ true → shut_to (locks_set d r flags) ≡ false → SetByOwner d n block (SetLocks caller r flags) (Ok Success)
   set-locks-opens d caller r flags e t f = elim (cases_eq (controlling_row d.rows n block) r) [
     | inr other ↦ absurd (locks-other d r flags other t f)
     | inl same ↦
@@ -319,7 +319,7 @@ module _ (access : Access) (n block : ℕ) where
         covering (UnitRow u) o = refl
         covering (RangeRow u a l q) o = refl
     fresh-key ex c Global e =
-        let none : is_there (UnitRowOf n) d.rows ≡ false = control-kind (λ k. k ≡ Global → is_there (UnitRowOf n) d.rows ≡ false) covering (λ q. absurd (let z : ◌≡◌ {A = ℕ} 0 1 = cc in let y : ⊥ = omega arith in y)) (λ q _. q) c e in
+        let none : is_there (UnitRowOf n) d.rows ≡ false = control-kind (λ k. k ≡ Global → is_there (UnitRowOf n) d.rows ≡ false) covering (λ q. absurd cc) (λ q _. q) c e in
         let holders = holders_of d r Global in
         let kind : kind_of (fresh_keys d holders) r ≡ Global = bare-global (kind_of (fresh_keys d holders) r) ((alike-renewed d holders).kinds r ∙ ap (with_serial 0) e) in
         subst (λ k. d.next ≤ key_or k (unit n (fresh_keys d holders).units).serial) (sym kind) (renewed-key d holders n d.next ex (omega arith) (under-global d.rows d.units n ex none))
@@ -331,9 +331,9 @@ module _ (access : Access) (n block : ℕ) where
         bare-global Free q = q
         bare-global Global q = refl
         bare-global (UnitRow u) q = q
-        bare-global (RangeRow u a l s) q = absurd (let z : ◌≡◌ {A = ℕ} 0 1 = cc in let y : ⊥ = omega arith in y)
+        bare-global (RangeRow u a l s) q = absurd cc
     fresh-key ex c (UnitRow k) e =
-        let kn : k ≡ n = control-kind (λ q. q ≡ UnitRow k → k ≡ n) covering (λ q. cc) (λ _ q. absurd (let z : ◌≡◌ {A = ℕ} 0 1 = cc in let y : ⊥ = omega arith in y)) c e in
+        let kn : k ≡ n = control-kind (λ q. q ≡ UnitRow k → k ≡ n) covering (λ q. cc) (λ _ q. absurd cc) c e in
         subst (λ q. d.next ≤ key_or q (unit n (fresh_keys d (TheUnit k ∷ [])).units).serial) (sym e) (renewed-key d (TheUnit k ∷ []) n d.next ex (omega arith) (inl (ap TheUnit kn)))
       where
         covering : (q : Kind) → range_over n block q ≡ true → q ≡ UnitRow k → k ≡ n
@@ -361,20 +361,18 @@ module _ (access : Access) (n block : ℕ) where
   assign-opens : (d : Drive) (caller k start len : ℕ) (standing : Standing) → Sound d → Sound (assigned d k start len standing) → assign_refusal d caller k start len standing ≡ None
       → shut_to d ≡ true → shut_to (assigned d k start len standing) ≡ false → FreshlyKeyed d (assigned d k start len standing) n block
   assign-opens d caller k start len standing h s e t f =
-      let p = all-passed (assign_checks d caller k start len standing) e in
-      let ranges = range_row_checks d k start len standing in
-      let units = unit_row_checks d start len standing in
+      let passed = branch-passed d caller k start len standing e in
       let chosen : Bool → Drive = λ b. cond b (range_row_assigned d k start len standing) (unit_row_assigned d k standing) in
       elim (cases_Bool (is_there (UnitRowOf k) d.rows)) [
         | inl u ↦
-            let q = subst (λ b. Passed (cond b ranges units)) u p.1.1.1 in
+            let q = passed true u in
             subst (λ b. FreshlyKeyed d (chosen b) n block) (sym u) (range-row-opens d k start len standing h (subst (λ b. Sound (chosen b)) u s) (not-false _ q.1.1.1.1.0) t (subst (λ b. shut_to (chosen b) ≡ false) u f))
         | inr u ↦
-            let q = subst (λ b. Passed (cond b ranges units)) u p.1.1.1 in
+            let q = passed false u in
             absurd (unit-row-opens d k standing h u (not-false _ q.1.1.1.0) q.1.1.0 t (subst (λ b. shut_to (chosen b) ≡ false) u f))
       ]
 
-  left-opens : (d : Drive) (c : Call) → Sound d → Sound (left d c) → refusal d c ≡ None → shut_to d ≡ true → shut_to (left d c) ≡ false → FreshlyKeyed d (left d c) n block ⊎ SetByOwner d n block c (said d c)
+  left-opens : (d : Drive) (c : Call) → Sound d → Sound (left d c) → refusal d c ≡ None → shut_to d ≡ true → shut_to (left d c) ≡ false → FreshlyKeyed d (left d c) n block ⊎ SetByOwner d n block c (Ok (said d c))
   left-opens d (Assign caller k start len standing) h s e t f = inl (assign-opens d caller k start len standing h s (else-none (opening_refusal caller) _ e) t f)
   left-opens d (Deassign caller r keep) h s e t f =
       let p = all-passed (deassign_checks d caller r keep) (else-none (opening_refusal caller) _ e) in
@@ -398,6 +396,6 @@ module _ (access : Access) (n block : ℕ) where
   pub after-opens : (d : Drive) (c : Call) → Sound d → shut_to d ≡ true → shut_to (after d c) ≡ false → Way d (after d c) c (answer d c)
   after-opens d c h t f = go (refusal d c) refl f
     where
-      go : (o : Option Cause) → refusal d c ≡ o → shut_to (unless o d (left d c)) ≡ false → Way d (unless o d (left d c)) c (refused_or o (said d c))
+      go : (o : Option Cause) → refusal d c ≡ o → shut_to (unless o d (left d c)) ≡ false → Way d (unless o d (left d c)) c (checks.answer o (said d c))
       go (Some cause) e f = absurd (both_ways (shut_to d) f t)
       go None e f = left-opens d c h (left-kept d h c e).0 e t f

@@ -1,18 +1,19 @@
 -- What some of the definitions come to, in other words.
-use Rattle.std.proofs.Common.{◌≡◌, ℕ, zero, suc, ◌+◌, ◌/◌, ◌%◌, ◌^◌, ◌<◌, ◌≤◌, max, Bool, true, false, cond, not, ◌||◌, eqb, ltb, leb, List, [], ◌∷◌, length, Some, None, filter, Option, sym, refl, ap, ◌∙◌, subst, inl, inr, div-one, add-one, arith, shr_lt}
+use Rattle.std.proofs.Common.{◌≡◌, ℕ, zero, suc, ◌+◌, ◌/◌, ◌%◌, ◌^◌, ◌<◌, ◌≤◌, max, Bool, true, false, cond, not, ◌||◌, eqb, ltb, leb, List, [], ◌∷◌, length, Some, None, Ok, filter, Option, sym, refl, ap, ◌∙◌, subst, inl, inr, div-one, add-one, arith, shr_lt}
 use native.Mathlib.Nat.{div-div-eq-div-mul, pow-succ'}
 use lib.Count.{ones, ones_in, ones_step}
 use Rattle.std.proofs.lemmas.Bool.Decides.{nat_tests}
 use Rattle.std.proofs.lemmas.Bool.{cases_eq, leb-false, eqb-true, eqb-false, or_parts}
+use Rattle.vault.specs.Checks as checks
 use Rattle.vault.specs.Checks.{first_of, unless}
-use Rattle.rules.specs.declared.call.Answer.TheVariants.{SingleUserRows}
+use Rattle.rules.specs.declared.call.Accepted.TheVariants.{SingleUserRows}
 use Rattle.rules.specs.declared.call.Call.{Call}
 use Rattle.rules.specs.declared.call.Call.TheVariants.{Reactivate}
 use Rattle.rules.specs.declared.cause.Cause.{Cause}
 use Rattle.rules.specs.declared.cause.Cause.TheVariants.{NoSuchUnit, BlockOutOfRange, BlockLocked, Closed}
 use Rattle.rules.specs.declared.row.Row.{Row}
 use Rattle.rules.specs.declared.row.Standing.TheVariants.{Shared, SingleUser}
-use Rattle.rules.specs.Calls.{refusal, after, answer, refused_or}
+use Rattle.rules.specs.Calls.{refusal, after, answer}
 use Rattle.rules.specs.Drive.{Drive}
 use Rattle.rules.specs.Laws.{point}
 use Rattle.rules.specs.Meanings.{SharingIsACommonBlock, DeniedAtFirstLockedBlock, GrantedWhereNoneLocked, single_user_rows, ReactivateCountsRows}
@@ -33,7 +34,7 @@ sharing-is-a-common-block s l a m = ((λ e. (max s a, grind (arith, nat_tests), 
 module _ (test : ℕ → Bool) where
   first_found : (from count b : ℕ) → first_from test from count ≡ Some b → (from ≤ b) × (b < from + count) × (test b ≡ true) × ((c : ℕ) → from ≤ c → c < b → test c ≡ false)
   unfolding first_from
-  first_found from zero b e = absurd (let z : ◌≡◌ {A = ℕ} 0 1 = cc in let y : ⊥ = omega arith in y)
+  first_found from zero b e = absurd cc
   first_found from (suc count) b e = go (test from) refl e (first_found (suc from) count b)
     where
       go : (t : Bool) → test from ≡ t → cond t (Some from) (first_from test (suc from) count) ≡ Some b
@@ -58,7 +59,7 @@ module _ (test : ℕ → Bool) where
     where
       go : (t : Bool) → test from ≡ t → cond t (Some from) (first_from test (suc from) count) ≡ None
           → (first_from test (suc from) count ≡ None → (c : ℕ) → suc from ≤ c → c < suc from + count → test c ≡ false) → test c ≡ false
-      go true t e ih = absurd (let z : ◌≡◌ {A = ℕ} 0 1 = cc in let y : ⊥ = omega arith in y)
+      go true t e ih = absurd cc
       go false t e ih = elim (cases_eq c from) [
         | inl same ↦ ap test same ∙ t
         | inr other ↦ ih e c (omega arith) (omega arith)
@@ -66,18 +67,18 @@ module _ (test : ℕ → Bool) where
 
 -- the checks before it deny no block
 before-it : (a b c : Bool) (o : Option Cause) (block r : ℕ) → or_else (first_of ((a, Closed) ∷ (b, NoSuchUnit) ∷ (c, BlockOutOfRange) ∷ [])) o ≡ Some (BlockLocked block r) → o ≡ Some (BlockLocked block r)
-before-it true b c o block r e = absurd (let z : ◌≡◌ {A = ℕ} 0 1 = cc in let y : ⊥ = omega arith in y)
-before-it false true c o block r e = absurd (let z : ◌≡◌ {A = ℕ} 0 1 = cc in let y : ⊥ = omega arith in y)
-before-it false false true o block r e = absurd (let z : ◌≡◌ {A = ℕ} 0 1 = cc in let y : ⊥ = omega arith in y)
+before-it true b c o block r e = absurd cc
+before-it false true c o block r e = absurd cc
+before-it false false true o block r e = absurd cc
 before-it false false false o block r e = e
 
 denied-parts : (rows : List Row) (n : ℕ) (o : Option ℕ) (block r : ℕ) → denied_at rows n o ≡ Some (BlockLocked block r) → (o ≡ Some block) × (r ≡ controlling_row rows n block)
-denied-parts rows n None block r e = absurd (let z : ◌≡◌ {A = ℕ} 0 1 = cc in let y : ⊥ = omega arith in y)
+denied-parts rows n None block r e = absurd cc
 denied-parts rows n (Some b) block r e = let p : b ≡ block = cc in let q : controlling_row rows n b ≡ r = cc in (ap Some p, sym q ∙ ap (controlling_row rows n) p)
 
 granted-parts : (rows : List Row) (n : ℕ) (o : Option ℕ) → denied_at rows n o ≡ None → o ≡ None
 granted-parts rows n None e = refl
-granted-parts rows n (Some b) e = absurd (let z : ◌≡◌ {A = ℕ} 0 1 = cc in let y : ⊥ = omega arith in y)
+granted-parts rows n (Some b) e = absurd cc
 
 pub denied-at-first-locked-block : DeniedAtFirstLockedBlock
 denied-at-first-locked-block d access n start count block r e =
@@ -127,12 +128,12 @@ reactivate-counts-rows d b calls k caller selection policy count lt is told =
     let p = point d calls k in
     let h = stays-sound d b calls k (omega arith) in
     let c : Call = Reactivate caller selection policy in
-    let e : answer p c ≡ SingleUserRows count = ap (answer p) (sym is) ∙ sym (answered d calls k lt) ∙ told in
+    let e : answer p c ≡ Ok (SingleUserRows count) = ap (answer p) (sym is) ∙ sym (answered d calls k lt) ∙ told in
     ap single_user_rows (next-point d calls k lt ∙ ap (after p) is) ∙ go p h (refusal p c) refl e
   where
-    go : (p : Drive) → Sound p → (o : Option Cause) → refusal p (Reactivate caller selection policy) ≡ o → refused_or o (SingleUserRows (ones selection)) ≡ SingleUserRows count
+    go : (p : Drive) → Sound p → (o : Option Cause) → refusal p (Reactivate caller selection policy) ≡ o → checks.answer o (SingleUserRows (ones selection)) ≡ Ok (SingleUserRows count)
         → single_user_rows (unless o p (reactivated p selection policy)) ≡ count
-    go p h (Some cause) r q = absurd (let z : ◌≡◌ {A = ℕ} 0 1 = cc in let y : ⊥ = omega arith in y)
+    go p h (Some cause) r q = absurd cc
     go p h None r q =
         let passed = all-passed (reactivate_checks p caller selection policy) (else-none (opening_refusal caller) _ r) in
         let small = leb-false (2 ^ 17) selection (or_parts (leb (2 ^ 17) selection) (ltb 1 policy) passed.1.1.0).0 in

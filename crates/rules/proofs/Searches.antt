@@ -19,7 +19,7 @@ cases-option None = inr refl
 cases-option (Some x) = inl (x, refl)
 
 pub none-some : {A : Type 0} {X : Type 0} (o : Option A) (x : A) → o ≡ None → o ≡ Some x → X
-none-some o x p q = absurd (let z : ◌≡◌ {A = ℕ} 0 1 = cc in let b : ⊥ = omega arith in b)
+none-some o x p q = absurd cc
 
 -- the same places pass in both lists
 pub first-same : {A : Type 0} (test : A → Bool) (d : A) (xs ys : List A) → length xs ≡ length ys

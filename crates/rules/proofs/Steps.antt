@@ -27,21 +27,25 @@ use Rattle.rules.proofs.Sounds.{create-sound, delete-sound, locks-sound, unit-ro
 abbrev Kept : Drive → List Request → Drive → Type 0
 Kept d asked e = Sound e × NoneRefused d.vault asked e.vault
 
+-- of Assign, the checks of a range row, or those of a unit row
+pub branch-passed : (d : Drive) (caller n start len : ℕ) (standing : Standing) → assign_refusal d caller n start len standing ≡ None
+    → (b : Bool) → is_there (UnitRowOf n) d.rows ≡ b → Passed (cond b (range_row_checks d n start len standing) (unit_row_checks d start len standing))
+branch-passed d caller n start len standing e b u =
+    subst (λ b. Passed (cond b (range_row_checks d n start len standing) (unit_row_checks d start len standing))) u (all-passed (assign_checks d caller n start len standing) e).1.1.1
+
 module _ (d : Drive) (h : Sound d) where
   assign-kept : (caller n start len : ℕ) (standing : Standing) → assign_refusal d caller n start len standing ≡ None
       → Kept d (cond (is_there (UnitRowOf n) d.rows) (Put d.next ∷ []) []) (assigned d n start len standing)
   assign-kept caller n start len standing e =
-      let p = all-passed (assign_checks d caller n start len standing) e in
-      let ex : exists n d.units ≡ true = not-false _ p.1.1.0 in
-      let ranges = range_row_checks d n start len standing in
-      let units = unit_row_checks d start len standing in
+      let ex : exists n d.units ≡ true = not-false _ (all-passed (assign_checks d caller n start len standing) e).1.1.0 in
+      let passed = branch-passed d caller n start len standing e in
       let choose : Bool → Type 0 = λ b. Kept d (cond b (Put d.next ∷ []) []) (cond b (range_row_assigned d n start len standing) (unit_row_assigned d n standing)) in
       elim (cases_Bool (is_there (UnitRowOf n) d.rows)) [
         | inl u ↦
-            let q = subst (λ b. Passed (cond b ranges units)) u p.1.1.1 in
+            let q = passed true u in
             subst choose (sym u) (range-row-sound d h n start len standing ex u q.0 q.1.0 (not-false _ q.1.1.1.1.0) q.1.1.1.1.1.0 q.1.1.1.1.1.1.0)
         | inr u ↦
-            let q = subst (λ b. Passed (cond b ranges units)) u p.1.1.1 in
+            let q = passed false u in
             subst choose (sym u) (unit-row-sound d h n standing ex u (not-false _ q.1.1.1.0), refl)
       ]
 

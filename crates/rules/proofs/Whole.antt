@@ -1,15 +1,16 @@
 -- The laws over runs, from those of one call.
-use Rattle.std.proofs.Common.{◌≡◌, ℕ, suc, ◌+◌, ◌<◌, ◌≤◌, Bool, true, false, cond, not, List, [], ◌∷◌, length, Some, None, Option, sym, refl, ap, ◌∙◌, subst, inl, inr, ⊎_elim, arith}
+use Rattle.std.proofs.Common.{◌≡◌, ℕ, suc, ◌+◌, ◌<◌, ◌≤◌, Bool, true, false, cond, not, List, [], ◌∷◌, length, Some, None, Ok, Err, Option, sym, refl, ap, ◌∙◌, subst, inl, inr, ⊎_elim, arith}
 use Rattle.std.proofs.lemmas.Bool.Decides.{nat_tests}
-use Rattle.std.proofs.lemmas.Bool.{both_ways, or_right, or_from, true≢false}
+use Rattle.std.proofs.lemmas.Bool.{or_right, or_from, true≢false}
 use Rattle.std.specs.List.{AllByRecursion}
 use Rattle.packed.proofs.Order.{has-insert, has-remove}
+use Rattle.vault.specs.Checks as checks
 use Rattle.vault.specs.Checks.{unless}
 use Rattle.vault.specs.declared.refusal.VaultRefusal.{VaultRefusal}
 use Rattle.vault.specs.Meaning.{Meaning, with_held, put_refusal, swap_refusal, drop_refusal}
 use Rattle.vault.specs.Serials.{holds, adds, drops}
-use Rattle.rules.specs.declared.call.Answer.{Answer}
-use Rattle.rules.specs.declared.call.Answer.TheVariants.{Success, Refused}
+use Rattle.rules.specs.declared.call.Accepted.{Accepted}
+use Rattle.rules.specs.declared.call.Accepted.TheVariants.{Success}
 use Rattle.rules.specs.declared.call.Call.{Call}
 use Rattle.rules.specs.declared.call.Call.TheVariants.{Assign, Deassign, SetRange, SetLocks, GenKey, Erase, Reactivate, Create, Delete, Format, Reset}
 use Rattle.rules.specs.declared.cause.Cause.{Cause}
@@ -18,7 +19,7 @@ use Rattle.rules.specs.declared.row.Kind.TheVariants.{Free, Global, UnitRow, Ran
 use Rattle.rules.specs.declared.row.Sought.TheVariants.{UnitRowOf}
 use Rattle.rules.specs.declared.unit.Holder.{Holder}
 use Rattle.rules.specs.declared.unit.Holder.TheVariants.{TheUnit, TheRow}
-use Rattle.rules.specs.Calls.{refusal, left, said, after, answer, refused_or, is_accepted}
+use Rattle.rules.specs.Calls.{refusal, left, said, after, answer, is_accepted}
 use Rattle.rules.specs.Drive.{Drive}
 use Rattle.rules.specs.FreshKeys.{fresh_key, holders_of, unit_and_ranges}
 use Rattle.rules.specs.Laws.{Begins, point, call_at, answered_at, has_block, holds_key, FreshlyKeyed, SetByOwner, StaysSound, AlwaysRangesInOrder, AlwaysOneKeyEach, NoRequestRefused, NoKeyReturns, OpenedByOwnerOrFreshKey, RefusedChangesNothing}
@@ -140,20 +141,7 @@ after-gone s d c g = record {
     go None e = absent-after s d.next d.vault (requests d c) (left d c).vault g.given (requests-new d c) (left-kept d g.sound c e).1 g.absent
 
 -- ---- answers
-said-accepted : (d : Drive) (c : Call) → is_accepted (said d c) ≡ true
-said-accepted d (Assign caller n start len standing) = refl
-said-accepted d (Deassign caller r keep) = refl
-said-accepted d (SetRange caller r start len) = refl
-said-accepted d (SetLocks caller r flags) = refl
-said-accepted d (GenKey caller r) = refl
-said-accepted d (Erase caller r) = refl
-said-accepted d (Reactivate caller selection policy) = refl
-said-accepted d (Create n blocks) = refl
-said-accepted d (Delete n) = refl
-said-accepted d (Format n) = refl
-said-accepted d (Reset caller) = refl
-
-accepted-none : (o : Option Cause) (a : Answer) → is_accepted (refused_or o a) ≡ true → o ≡ None
+accepted-none : (o : Option Cause) (a : Accepted) → is_accepted (checks.answer o a) ≡ true → o ≡ None
 accepted-none None a e = refl
 accepted-none (Some cause) a e = absurd (true≢false (sym e))
 
@@ -176,7 +164,7 @@ module _ (d : Drive) (calls : List Call) (k : ℕ) (lt : k < length calls) where
   next-point = point-next after d calls d (Reset 0) k lt
 
   pub answered : answered_at d calls k ≡ answer (point d calls k) (call_at calls k)
-  answered = answer_at after answer d calls d (Reset 0) Success k lt
+  answered = answer_at after answer d calls d (Reset 0) (Ok Success) k lt
 
 pub no-request-refused : NoRequestRefused
 no-request-refused d b calls k lt acc =
@@ -214,6 +202,6 @@ refused-changes-nothing d calls k cause lt e =
     let c = call_at calls k in
     next-point d calls k lt ∙ go p c (refusal p c) refl (sym (answered d calls k lt) ∙ e)
   where
-    go : (p : Drive) (c : Call) (o : Option Cause) → refusal p c ≡ o → refused_or o (said p c) ≡ Refused cause → unless o p (left p c) ≡ p
+    go : (p : Drive) (c : Call) (o : Option Cause) → refusal p c ≡ o → checks.answer o (said p c) ≡ Err cause → unless o p (left p c) ≡ p
     go p c (Some x) r q = refl
-    go p c None r q = absurd (both_ways (is_accepted (said p c)) (ap is_accepted q) (said-accepted p c))
+    go p c None r q = absurd (true≢false (ap is_accepted q))

@@ -1,8 +1,9 @@
 -- A call as a value: when it is refused, what it leaves, and what it answers.
-use Rattle.std.specs.Prelude.{Bool, true, false, Some, None, Option, count_ones}
+use Rattle.std.specs.Prelude.{Bool, is_ok, Option, Result, count_ones}
+use Rattle.vault.specs.Checks as checks
 use Rattle.vault.specs.Checks.{unless}
-use Rattle.rules.specs.declared.call.Answer.{Answer}
-use Rattle.rules.specs.declared.call.Answer.TheVariants.{Success, Assigned, SingleUserRows, Refused}
+use Rattle.rules.specs.declared.call.Accepted.{Accepted}
+use Rattle.rules.specs.declared.call.Accepted.TheVariants.{Success, Assigned, SingleUserRows}
 use Rattle.rules.specs.declared.call.Call.{Call}
 use Rattle.rules.specs.declared.call.Call.TheVariants.{Assign, Deassign, SetRange, SetLocks, GenKey, Erase, Reactivate, Create, Delete, Format, Reset}
 use Rattle.rules.specs.declared.cause.Cause.{Cause}
@@ -40,7 +41,7 @@ left d (Format n) = formatted d n
 left d (Reset caller) = was_reset d
 
 -- what an accepted call answers
-abbrev pub said : Drive → Call → Answer
+abbrev pub said : Drive → Call → Accepted
 said d (Assign caller n start length standing) = Assigned (assigned_row d n standing)
 said d (Deassign caller r keep) = Success
 said d (SetRange caller r start length) = Success
@@ -53,19 +54,15 @@ said d (Delete n) = Success
 said d (Format n) = Success
 said d (Reset caller) = Success
 
-abbrev pub refused_or : Option Cause → Answer → Answer
-refused_or (Some cause) accepted = Refused cause
-refused_or None accepted = accepted
-
 -- any call: all as it was, and the cause, where it is refused
 abbrev pub after : Drive → Call → Drive
 after d call = unless (refusal d call) d (left d call)
 
+abbrev pub Answer : Type 0
+Answer = Result Accepted Cause
+
 abbrev pub answer : Drive → Call → Answer
-answer d call = refused_or (refusal d call) (said d call)
+answer d call = checks.answer (refusal d call) (said d call)
 
 abbrev pub is_accepted : Answer → Bool
-is_accepted Success = true
-is_accepted (Assigned row) = true
-is_accepted (SingleUserRows count) = true
-is_accepted (Refused cause) = false
+is_accepted answer = is_ok answer

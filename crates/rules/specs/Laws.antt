@@ -1,16 +1,15 @@
 -- What holds of every run: a drive that is blank or that a sheet can describe, and then any list of calls, accepted or refused.
-use Rattle.std.specs.Prelude.{◌≡◌, ℕ, ◌+◌, ◌<◌, ◌≤◌, Bool, true, false, ◌&&◌, ◌⊎◌, List, length, None, filter, nat_lt, slice_index_or}
+use Rattle.std.specs.Prelude.{◌≡◌, ℕ, ◌+◌, ◌<◌, ◌≤◌, Bool, true, false, ◌&&◌, ◌⊎◌, List, length, None, Ok, Err, filter, nat_lt, slice_index_or}
 use Rattle.vault.specs.Meaning.{Meaning, sound}
 use Rattle.vault.specs.Serials.{holds, collect, distinct}
 use Rattle.rules.specs.declared.access.Access.{Access}
-use Rattle.rules.specs.declared.call.Answer.{Answer}
-use Rattle.rules.specs.declared.call.Answer.TheVariants.{Success, Refused}
+use Rattle.rules.specs.declared.call.Accepted.TheVariants.{Success}
 use Rattle.rules.specs.declared.call.Call.{Call}
 use Rattle.rules.specs.declared.call.Call.TheVariants.{SetLocks, Reset}
 use Rattle.rules.specs.declared.cause.Cause.{Cause}
 use Rattle.rules.specs.declared.row.Flags.{Flags}
 use Rattle.rules.specs.declared.row.Kind.TheVariants.{UnitRow, RangeRow}
-use Rattle.rules.specs.Calls.{after, answer, is_accepted}
+use Rattle.rules.specs.Calls.{Answer, after, answer, is_accepted}
 use Rattle.rules.specs.Drive.{Drive, unused_keys}
 use Rattle.rules.specs.LayingOut.{fresh_refusal, fresh}
 use Rattle.rules.specs.Methods.{row_of, kind_of}
@@ -40,7 +39,7 @@ abbrev pub call_at : List Call → ℕ → Call
 call_at calls k = slice_index_or calls k (Reset 0)
 
 abbrev pub answered_at : Drive → List Call → ℕ → Answer
-answered_at d calls k = slice_index_or (answers_by after answer d calls) k Success
+answered_at d calls k = slice_index_or (answers_by after answer d calls) k (Ok Success)
 
 abbrev pub AtEveryPoint : (Drive → Type 0) → Type 0
 AtEveryPoint Law = (d : Drive) → Begins d → (calls : List Call) (k : ℕ) → k ≤ length calls → Law (point d calls k)
@@ -110,7 +109,7 @@ pub record SetByOwner (d : Drive) (n block : ℕ) (call : Call) (answered : Answ
   pub flags : Flags
   pub call_is : call ≡ SetLocks caller (controlling_row d.rows n block) flags
   pub owns : caller ≡ owner (controlling_row d.rows n block) (row_of d (controlling_row d.rows n block))
-  pub accepted : answered ≡ Success
+  pub accepted : answered ≡ Ok Success
 
 -- a block that is locked at one point and open at a later one, for reading or for writing
 abbrev pub OpenedByOwnerOrFreshKey : Type 0
@@ -124,4 +123,4 @@ OpenedByOwnerOrFreshKey = (d : Drive) → Begins d → (calls : List Call) (acce
 -- ---- a refused call leaves everything as it was
 abbrev pub RefusedChangesNothing : Type 0
 RefusedChangesNothing = (d : Drive) (calls : List Call) (k : ℕ) (cause : Cause) → k < length calls
-    → answered_at d calls k ≡ Refused cause → point d calls (k + 1) ≡ point d calls k
+    → answered_at d calls k ≡ Err cause → point d calls (k + 1) ≡ point d calls k

@@ -10,6 +10,7 @@ pub mod Commands
 pub mod Methods
 pub mod MoreQuestions
 pub mod Calls
+pub mod Asks
 pub mod Walk
 pub mod Sound
 pub mod Requests

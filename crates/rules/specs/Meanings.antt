@@ -1,8 +1,8 @@
 -- What some of the definitions come to, in other words.
-use Rattle.std.specs.Prelude.{◌≡◌, ℕ, ◌+◌, ◌<◌, ◌≤◌, true, false, ◌≢◌, List, length, Some, None, filter, slice_index_or}
+use Rattle.std.specs.Prelude.{◌≡◌, ℕ, ◌+◌, ◌<◌, ◌≤◌, true, false, ◌≢◌, List, length, Some, None, Ok, filter, slice_index_or}
 use Rattle.std.specs.List.{AllByRecursion}
 use Rattle.rules.specs.declared.access.Access.{Access}
-use Rattle.rules.specs.declared.call.Answer.TheVariants.{SingleUserRows}
+use Rattle.rules.specs.declared.call.Accepted.TheVariants.{SingleUserRows}
 use Rattle.rules.specs.declared.call.Call.{Call}
 use Rattle.rules.specs.declared.call.Call.TheVariants.{Reactivate}
 use Rattle.rules.specs.declared.cause.Cause.TheVariants.{BlockLocked}
@@ -46,7 +46,7 @@ single_user_rows d = length (filter (λ r. is_single_user r.standing) d.rows)
 
 abbrev pub ReactivateCountsRows : Type 0
 ReactivateCountsRows = (d : Drive) → Begins d → (calls : List Call) (k caller selection policy count : ℕ) → k < length calls
-    → call_at calls k ≡ Reactivate caller selection policy → answered_at d calls k ≡ SingleUserRows count → single_user_rows (point d calls (k + 1)) ≡ count
+    → call_at calls k ≡ Reactivate caller selection policy → answered_at d calls k ≡ Ok (SingleUserRows count) → single_user_rows (point d calls (k + 1)) ≡ count
 
 -- fresh keys are given in order: the first of these gets the next serial, the second the one after it, and so on; and no other key changes
 pub record KeyedInOrder (d : Drive) (holders : List Holder) : Type 0 where

@@ -57,13 +57,15 @@ pub enum Call {
     },
 }
 
-/// What a call answers.
-#[derive(Clone, Copy)]
-pub enum Answer {
+/// What an accepted call answers.
+#[derive(Clone, Copy, PartialEq, Eq)]
+pub enum Accepted {
     Success,
     /// The row's number, and whether it is a unit row.
     Assigned((u32, bool)),
     /// How many rows are put in Single User Mode.
     SingleUserRows(u32),
-    Refused(Cause),
 }
+
+/// What a call answers.
+pub type Answer = Result<Accepted, Cause>;

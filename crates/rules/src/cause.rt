@@ -2,7 +2,7 @@ ghost use Rattle.std.specs.Prelude.{◌≡◌};
 ghost use Rattle.rules.specs.Causes.{number, status};
 
 /// Why a call is refused.
-#[derive(Clone, Copy)]
+#[derive(Clone, Copy, PartialEq, Eq)]
 pub enum Cause {
     CallerNotAllowed,
     /// The row's number is above 16.
@@ -100,8 +100,8 @@ impl Cause {
             Cause::OutOfBounds => 20,
             Cause::LockEnabled => 21,
             Cause::BlockOutOfRange => 22,
-            Cause::BlockLocked { block: _, row: _ } => 23,
-            Cause::BufferShort { needed: _ } => 24,
+            Cause::BlockLocked { .. } => 23,
+            Cause::BufferShort { .. } => 24,
             Cause::SheetHeader => 25,
             Cause::SheetField => 26,
             Cause::SheetRelation => 27,
@@ -128,8 +128,8 @@ impl Cause {
             (Cause::NoFreeRow, _) => Some(Status::InsufficientRows),
             (Cause::LockEnabled, _) => Some(Status::Fail),
             (Cause::BlockOutOfRange, _) => Some(Status::LbaOutOfRange),
-            (Cause::BlockLocked { block: _, row: _ }, _) => Some(Status::AccessDenied),
-            (Cause::BufferShort { needed: _ }, _) => None,
+            (Cause::BlockLocked { .. }, _) => Some(Status::AccessDenied),
+            (Cause::BufferShort { .. }, _) => None,
             (
                 Cause::SheetHeader
                 | Cause::SheetField
@@ -138,7 +138,7 @@ impl Cause {
                 | Cause::Closed,
                 _,
             ) => None,
-            (_, _) => Some(Status::InvalidParameter),
+            _ => Some(Status::InvalidParameter),
         }
     }
 }

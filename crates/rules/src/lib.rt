@@ -2,6 +2,7 @@
 #![tactic(auto)]
 
 pub mod access;
+pub mod ask;
 pub mod call;
 pub mod cause;
 pub mod laws;

@@ -1,7 +1,7 @@
 ghost use Rattle.std.specs.Prelude.{◌≡◌, ℕ, false};
+ghost use Rattle.std.proofs.Common.{refl};
 ghost use Rattle.rules.specs.Units.{valid};
 ghost use Rattle.rules.specs.declared.numbering.Bounds.{Bounds};
-ghost use Rattle.std.proofs.Common.{rules};
 
 /// What a numbering fixes: the mark of a row without a unit, the first and the last unit number, and its code on the sheet.
 #[derive(Clone, Copy)]
@@ -14,21 +14,11 @@ pub struct Bounds {
 
 /// How units are numbered. Code over numberings is proved once, from this law.
 pub trait Numbering {
-    const MARK: u32;
+    const BOUNDS: Bounds;
 
-    const FIRST: u32;
+    ghost BOUNDS: { Bounds };
 
-    const LAST: u32;
-
-    const CODE: u16;
-
-    ghost bounds: { Bounds };
-
-    /// The constants, as generic code reads them.
-    fn bounds_of() -> Bounds
-        ensures { result ≡ bounds };
-
-    ghost apart: { valid bounds bounds.mark ≡ false };
+    ghost apart: { valid BOUNDS BOUNDS.mark ≡ false };
 }
 
 /// NVMe namespaces count from 1; 0 marks a row without one.
@@ -36,26 +26,16 @@ pub trait Numbering {
 pub struct Nvme {}
 
 impl Numbering for Nvme {
-    const MARK: u32 = 0;
+    const BOUNDS: Bounds = Bounds {
+        mark: 0,
+        first: 1,
+        last: 0xFFFF_FFFE,
+        code: 1,
+    };
 
-    const FIRST: u32 = 1;
+    ghost BOUNDS = { record { mark = 0; first = 1; last = 0xFFFF_FFFE; code = 1 } };
 
-    const LAST: u32 = 0xFFFF_FFFE;
-
-    const CODE: u16 = 1;
-
-    ghost bounds = { record { mark = 0; first = 1; last = 0xFFFF_FFFE; code = 1 } };
-
-    ghost apart = { Prim.search rules };
-
-    fn bounds_of() -> Bounds {
-        Bounds {
-            mark: Self::MARK,
-            first: Self::FIRST,
-            last: Self::LAST,
-            code: Self::CODE,
-        }
-    }
+    ghost apart = { refl };
 }
 
 /// SCSI logical units count from 0; 0xFFFF_FFFF marks a row without one.
@@ -63,32 +43,21 @@ impl Numbering for Nvme {
 pub struct Scsi {}
 
 impl Numbering for Scsi {
-    const MARK: u32 = 0xFFFF_FFFF;
+    const BOUNDS: Bounds = Bounds {
+        mark: 0xFFFF_FFFF,
+        first: 0,
+        last: 0xFFFF_FFFE,
+        code: 2,
+    };
 
-    const FIRST: u32 = 0;
+    ghost BOUNDS = { record { mark = 0xFFFF_FFFF; first = 0; last = 0xFFFF_FFFE; code = 2 } };
 
-    const LAST: u32 = 0xFFFF_FFFE;
-
-    const CODE: u16 = 2;
-
-    ghost bounds = { record { mark = 0xFFFF_FFFF; first = 0; last = 0xFFFF_FFFE; code = 2 } };
-
-    ghost apart = { Prim.search rules };
-
-    fn bounds_of() -> Bounds {
-        Bounds {
-            mark: Self::MARK,
-            first: Self::FIRST,
-            last: Self::LAST,
-            code: Self::CODE,
-        }
-    }
+    ghost apart = { refl };
 }
 
 /// Whether the numbering gives this number to units.
 pub fn is_valid<N: Numbering>(number: u32) -> bool
-    ensures { result ≡ valid N.bounds number }
+    ensures { result ≡ valid N.BOUNDS number }
 {
-    let b = N::bounds_of();
-    b.first <= number && number <= b.last
+    N::BOUNDS.first <= number && number <= N::BOUNDS.last
 }

@@ -4,7 +4,7 @@ ghost use Rattle.rules.specs.Rows.{suits, free_of, shares};
 use packed::Test;
 
 /// The five lock flags of a row.
-#[derive(Clone, Copy)]
+#[derive(Clone, Copy, PartialEq, Eq)]
 pub struct Flags {
     pub read_lock_enabled: bool,
     pub write_lock_enabled: bool,
@@ -14,7 +14,7 @@ pub struct Flags {
 }
 
 /// What a row is for.
-#[derive(Clone, Copy)]
+#[derive(Clone, Copy, PartialEq, Eq)]
 pub enum Kind {
     Free,
     /// Row 0: every block that no other row controls.
@@ -33,7 +33,7 @@ pub enum Kind {
 }
 
 /// Whether a row is in Single User Mode.
-#[derive(Clone, Copy)]
+#[derive(Clone, Copy, PartialEq, Eq)]
 pub enum Standing {
     Shared,
     SingleUser,
@@ -48,7 +48,7 @@ pub struct Row {
 }
 
 /// A row as the sheet has it: the unit or the mark, the serial or 0, and so on; and its standing.
-#[derive(Clone, Copy)]
+#[derive(Clone, Copy, PartialEq, Eq)]
 pub struct RowFields {
     pub unit: u32,
     pub serial: u32,
@@ -69,21 +69,12 @@ pub enum Sought {
     RangeSharing { unit: u32, start: u64, length: u64 },
 }
 
-/// A free row of this standing is looked for.
-#[derive(Clone, Copy)]
-pub struct FreeRow {
-    pub standing: Standing,
-}
-
-impl Test<Row> for FreeRow {
-    ghost passes = { λ sought row. free_of sought.standing row };
-
-    fn test(&self, row: &Row) -> bool {
-        match (row.kind, self.standing, row.standing) {
-            (Kind::Free, Standing::Shared, Standing::Shared) => true,
-            (Kind::Free, Standing::SingleUser, Standing::SingleUser) => true,
-            (_, _, _) => false,
-        }
+impl Row {
+    /// Whether the row is free, with this standing.
+    pub fn is_free(&self, standing: Standing) -> bool
+        ensures { result ≡ free_of standing self.now }
+    {
+        self.kind == Kind::Free && self.standing == standing
     }
 }
 
@@ -98,30 +89,23 @@ fn shares_block(start: u64, length: u64, other: u64, other_length: u64) -> bool
     }
 }
 
-impl Test<Row> for Sought {
-    ghost passes = { λ sought row. suits sought row };
-
-    fn test(&self, row: &Row) -> bool {
-        match (*self, row.kind) {
+impl Sought {
+    /// Whether the row is what is looked for.
+    pub fn suits(self, row: &Row) -> bool
+        ensures { result ≡ suits self row.now }
+    {
+        match (self, row.kind) {
             (Sought::UnitRowOf { unit }, Kind::UnitRow { unit: u }) => u == unit,
-            (
-                Sought::RangeRowOf { unit },
-                Kind::RangeRow {
-                    unit: u,
-                    start: _,
-                    length: _,
-                    serial: _,
-                },
-            ) => u == unit,
+            (Sought::RangeRowOf { unit }, Kind::RangeRow { unit: u, .. }) => u == unit,
             (
                 Sought::RangeOver { unit, block },
                 Kind::RangeRow {
                     unit: u,
                     start,
                     length,
-                    serial: _,
+                    ..
                 },
-            ) => { u == unit && start <= block && block - start < length }
+            ) => u == unit && start <= block && block - start < length,
             (
                 Sought::RangeSharing {
                     unit,
@@ -132,10 +116,18 @@ impl Test<Row> for Sought {
                     unit: u,
                     start: own_start,
                     length: own_length,
-                    serial: _,
+                    ..
                 },
-            ) => { u == unit && shares_block(own_start, own_length, start, length) }
-            (_, _) => false,
+            ) => u == unit && shares_block(own_start, own_length, start, length),
+            _ => false,
         }
+    }
+}
+
+impl Test<Row> for Sought {
+    ghost passes = { λ sought row. suits sought row };
+
+    fn test(&self, row: &Row) -> bool {
+        self.suits(row)
     }
 }

@@ -21,7 +21,7 @@ impl Keyed for LogicalUnit {
 }
 
 /// The row that controls a block, and the serial of the block's key.
-#[derive(Clone, Copy)]
+#[derive(Clone, Copy, PartialEq, Eq)]
 pub struct Control {
     pub row: u32,
     pub serial: u32,

@@ -1,45 +1,31 @@
-//! One call of a script on a table: what it answers, and what it leaves.
+//! One call of a script on a table: what it replies, and what it leaves.
 #![tactic(auto)]
 
 ghost use Rattle.std.specs.Prelude.{◌≡◌};
-ghost use Rattle.steps.specs.Step.{answer_to, after};
+ghost use Rattle.rules.specs.Asks.{reply_to, left_by};
+ghost use Rattle.steps.specs.Step.{asked};
 
-use rules::cause::Cause;
-use rules::unit::Control;
+use rules::ask::{Reply, Told};
+use rules::call::Accepted;
 use script::Call;
-use table::calls::*;
-
-/// What a call answers.
-#[derive(Clone, Copy)]
-pub enum Answer {
-    Success,
-    Unused(u32),
-    Controls(Control),
-    Refused(Cause),
-}
+use table::calls::Calls;
 
 /// Makes one call.
-pub fn make<C: Calls>(table: &mut C, call: Call) -> Answer
+pub fn make<C: Calls>(table: &mut C, call: Call) -> Reply
     ensures lent { C.lenders table.new ≡ C.lenders table.old }
-    ensures answer { result ≡ answer_to (C.model table.old) call }
-    ensures after { C.model table.new ≡ after (C.model table.old) call }
+    ensures reply { result ≡ reply_to (C.model table.old) (asked call) }
+    ensures after { C.model table.new ≡ left_by (C.model table.old) (asked call) }
 {
-    match call {
-        Call::Create { unit, blocks } => match table.create(unit, blocks) {
-            Ok(()) => Answer::Success,
-            Err(cause) => Answer::Refused(cause),
-        },
-        Call::Delete { unit } => match table.delete(unit) {
-            Ok(()) => Answer::Success,
-            Err(cause) => Answer::Refused(cause),
-        },
-        Call::Unused => match table.unused() {
-            Ok(count) => Answer::Unused(count),
-            Err(cause) => Answer::Refused(cause),
-        },
-        Call::Controls { unit, block } => match table.controls(unit, block) {
-            Ok(control) => Answer::Controls(control),
-            Err(cause) => Answer::Refused(cause),
-        },
-    }
+    Ok(match call {
+        Call::Create { unit, blocks } => {
+            table.create(unit, blocks)?;
+            Told::Answered(Accepted::Success)
+        }
+        Call::Delete { unit } => {
+            table.delete(unit)?;
+            Told::Answered(Accepted::Success)
+        }
+        Call::Controls { unit, block } => Told::Controls(table.controls(unit, block)?),
+        Call::Unused => Told::Unused(table.unused()?),
+    })
 }

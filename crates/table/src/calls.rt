@@ -61,7 +61,7 @@ pub trait Calls {
 }
 
 impl<'v, V: Vault, N: Numbering> Calls for Table<'v, V, N> {
-    ghost model = { λ t. drive t.layout t.closed N.Numbering.bounds (V.Vault.meaning t.vault.now) };
+    ghost model = { λ t. drive t.layout t.closed N.Numbering.BOUNDS (V.Vault.meaning t.vault.now) };
 
     ghost lenders = { λ t. t.vault.ghost_name ∷ V.Vault.lenders t.vault.now };
 

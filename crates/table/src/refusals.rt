@@ -17,13 +17,13 @@ use vault::Vault;
 impl<'v, V: Vault, N: Numbering> Table<'v, V, N> {
     /// How many keys the vault has room for.
     pub(crate) fn unused_keys(&self) -> u32
-        ensures { result ≡ unused_keys (drive self.now.layout self.now.closed N.bounds (V.meaning self.now.vault.now)) }
+        ensures { result ≡ unused_keys (drive self.now.layout self.now.closed N.BOUNDS (V.meaning self.now.vault.now)) }
     {
         self.vault.capacity().saturating_sub(self.vault.count())
     }
 
     pub(crate) fn create_refusal(&self, number: u32, blocks: u64) -> Option<Cause>
-        ensures { result ≡ create_refusal (drive self.now.layout self.now.closed N.bounds (V.meaning self.now.vault.now)) number blocks }
+        ensures { result ≡ create_refusal (drive self.now.layout self.now.closed N.BOUNDS (V.meaning self.now.vault.now)) number blocks }
     {
         if self.closed {
             return Some(Cause::Closed);
@@ -53,7 +53,7 @@ impl<'v, V: Vault, N: Numbering> Table<'v, V, N> {
     }
 
     pub(crate) fn delete_refusal(&self, number: u32) -> Option<Cause>
-        ensures { result ≡ delete_refusal (drive self.now.layout self.now.closed N.bounds (V.meaning self.now.vault.now)) number }
+        ensures { result ≡ delete_refusal (drive self.now.layout self.now.closed N.BOUNDS (V.meaning self.now.vault.now)) number }
     {
         if self.closed {
             return Some(Cause::Closed);

@@ -45,7 +45,7 @@ pub fn fresh_check<V: Vault>(vault: &V) -> Result<(), Cause>
 impl<'v, V: Vault, N: Numbering> Table<'v, V, N> {
     /// Lays a table out blank; a closed one where `fresh_check` refuses.
     pub fn fresh(vault: &'v mut V, numbering: &'v N) -> Table<'v, V, N>
-        ensures model { drive result.layout result.closed N.bounds (V.meaning result.vault.now) ≡ fresh N.bounds (V.meaning vault.old) }
+        ensures model { drive result.layout result.closed N.BOUNDS (V.meaning result.vault.now) ≡ fresh N.BOUNDS (V.meaning vault.old) }
         ensures same { result.vault.now ≡ vault.old }
         ensures lent { result.vault.ghost_name ≡ vault.entry.ghost_name }
     {

@@ -1,13 +1,12 @@
-use Rattle.std.proofs.Common.{refl}
+use Rattle.std.proofs.Common.{rules}
 use Rattle.packed.specs.First.{first}
-use Rattle.packed.specs.Rising.{has, lookup, insert, remove, change}
+use Rattle.packed.specs.Rising.{has, lookup, change}
 use Rattle.rules.specs.Rows.{any_row, each_row_by}
 use Rattle.rules.specs.FreshKeys.{fresh_keys}
 use lib.Count.{ones}
-use Rattle.cases.proofs.Chain.{◌▸◌}
 use Rattle.cases.proofs.sequence.single_users.Goals as goal
 
--- what the definitions say of these calls is computed
+-- here the ones of a selection are counted too
 pub returns : goal.returns
-unfolding first has lookup insert remove change any_row each_row_by fresh_keys ones
-returns c = refl ▸ refl ▸ refl ▸ refl ▸ refl ▸ refl ▸ refl ▸ refl ▸ tt
+unfolding first has lookup change any_row each_row_by fresh_keys ones
+returns c = search rules

@@ -1,0 +1,35 @@
+-- A call or a question as a value: the reply to it, and what it leaves.
+use Rattle.std.specs.Prelude.{Result}
+use Rattle.std.specs.Result.{result_map_both}
+use Rattle.rules.specs.declared.ask.Ask.{Ask}
+use Rattle.rules.specs.declared.ask.Ask.TheVariants as asks
+use Rattle.rules.specs.declared.ask.Told.{Told}
+use Rattle.rules.specs.declared.ask.Told.TheVariants as tells
+use Rattle.rules.specs.declared.cause.Cause.{Cause}
+use Rattle.rules.specs.Calls as calls
+use Rattle.rules.specs.Drive.{Drive}
+use Rattle.rules.specs.MoreQuestions.{access_answer, read_row_answer}
+use Rattle.rules.specs.Questions.{unused_answer, controls_answer}
+
+abbrev pub Reply : Type 0
+Reply = Result Told Cause
+
+-- an outcome, told by how its value is told
+abbrev pub told : {A : Type 0} → (A → Told) → Result A Cause → Reply
+told tell outcome = result_map_both tell (λ cause. cause) outcome
+
+-- what the definitions reply
+abbrev pub reply_to : Drive → Ask → Reply
+reply_to d (asks.Call call) = told tells.Answered (calls.answer d call)
+reply_to d asks.Unused = told tells.Unused (unused_answer d)
+reply_to d (asks.Controls unit block) = told tells.Controls (controls_answer d unit block)
+reply_to d (asks.Access access unit start count) = told (λ _. tells.Granted) (access_answer d access unit start count)
+reply_to d (asks.ReadRow row) = told tells.Row (read_row_answer d row)
+
+-- what they leave: a question changes nothing
+abbrev pub left_by : Drive → Ask → Drive
+left_by d (asks.Call call) = calls.after d call
+left_by d asks.Unused = d
+left_by d (asks.Controls unit block) = d
+left_by d (asks.Access access unit start count) = d
+left_by d (asks.ReadRow row) = d
