@@ -42,6 +42,14 @@ impl<T: Keyed + Copy + Default, const CAP: usize> SortedList<T, CAP> {
         self.items.as_slice()
     }
 
+    /// How many elements there are.
+    pub fn len(&self) -> usize
+        ensures value { result ≡ length self.now }
+        ensures fits { result ≤ CAP }
+    {
+        self.items.len()
+    }
+
     // Where the number is, or where it would go.
     fn search(&self, number: u32) -> Result<usize, usize>
         ensures found { IfOk result (λ i. first (λ x. T.Keyed.key x == number) self.now ≡ Some i) }

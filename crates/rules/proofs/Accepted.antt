@@ -1,7 +1,5 @@
 -- What an accepted call has passed.
-use Rattle.std.proofs.Common.{◌≡◌, ℕ, ◌^◌, Bool, true, false, cond, not, ◌&&◌, eqb, leb, List, [], ◌∷◌, length, Some, None, Option, refl}
-use Rattle.std.specs.List.{AllByRecursion}
-use Rattle.vault.specs.Checks.{first_of}
+use Rattle.std.proofs.Common.{◌≡◌, ℕ, ◌^◌, Bool, not, ◌&&◌, eqb, leb, List, [], ◌∷◌, length, Some, None, Option}
 use Rattle.rules.specs.declared.cause.Cause.{Cause}
 use Rattle.rules.specs.declared.cause.Cause.TheVariants.{NoSuchUnit, UnitExists, BadSize, NoUnusedKey, SerialsRunOut, Locked, HasUnitRow, SixteenUnits, Closed}
 use Rattle.rules.specs.declared.row.Sought.TheVariants.{UnitRowOf}
@@ -30,18 +28,6 @@ delete_checks d n =
     ∷ (is_there (UnitRowOf n) d.rows, HasUnitRow)
     ∷ (locked (row 0 d.rows).flags, Locked)
     ∷ []
-
--- each of the checks
-abbrev pub Passed : List (Bool × Cause) → Type 0
-Passed checks = AllByRecursion (λ check. check.0 ≡ false) checks
-
-pub all-passed : (checks : List (Bool × Cause)) → first_of checks ≡ None → Passed checks
-all-passed [] e = tt
-all-passed (check ∷ checks) e = go check.0 refl e (all-passed checks)
-  where
-    go : (b : Bool) → check.0 ≡ b → cond b (Some check.1) (first_of checks) ≡ None → (first_of checks ≡ None → Passed checks) → (check.0 ≡ false) × Passed checks
-    go true p q ih = absurd cc
-    go false p q ih = (p, ih q)
 
 -- where the session opens and the call is not refused
 pub else-none : (o p : Option Cause) → or_else o p ≡ None → p ≡ None

@@ -14,7 +14,7 @@ use Rattle.rules.specs.declared.row.Sought.TheVariants.{UnitRowOf, RangeOver}
 use Rattle.rules.specs.LayingOut.{fresh_refusal, fresh}
 use Rattle.rules.specs.Rows.{blank, no_row, row, free_row, global_row, suits, any_row}
 use Rattle.rules.specs.Sound.{Sound, SoundRows, AtMostOne, is_global, row_fits}
-use Rattle.rules.proofs.Accepted.{all-passed}
+use Rattle.vault.proofs.Checks.{all-passed}
 use Rattle.rules.proofs.Keys.{make-keys}
 
 -- what holds of the Global row, of a free row and of none holds of every row of a blank table

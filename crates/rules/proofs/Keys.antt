@@ -136,7 +136,7 @@ module _ (n : ℕ) (m : Meaning) (words : List ℕ) (k : SoundKeys n m words) wh
 
       pub put-keys : SoundKeys (n + 1) (put_after m n) ws
       put-keys = subst (λ (v : Meaning). SoundKeys (n + 1) v ws) (sym put_is)
-          (make-keys (n + 1) (with_held m (adds n m.held)) ws (put-sound m k.meaning n positive next-new room)
+          (make-keys (n + 1) (with_held m (adds n m.held)) ws (put-sound m k.meaning n put-done)
           (ap (adds n) k.held ∙ sym more) (given-add n m.held k.given))
 
     -- Swap of a word for the next serial
@@ -150,7 +150,7 @@ module _ (n : ℕ) (m : Meaning) (words : List ℕ) (k : SoundKeys n m words) wh
       pub swap-keys : SoundKeys (n + 1) (swap_after m s n) (set words i n)
       swap-keys = subst (λ (v : Meaning). SoundKeys (n + 1) v (set words i n)) (sym swap_is)
           (make-keys (n + 1) (with_held m (adds n (drops s m.held))) (set words i n)
-          (swap-sound m k.meaning s (word_held i s l g z) n positive next-new)
+          (swap-sound m k.meaning s n swap-done)
           (ap (λ v. adds n (drops s v)) k.held ∙ sym (collect-swap words i s l g z n nonzero))
           (given-add n (drops s m.held) (λ t h. k.given t (holds-drop t s m.held h))))
 
@@ -170,7 +170,7 @@ module _ (n : ℕ) (m : Meaning) (words : List ℕ) (k : SoundKeys n m words) wh
 
     pub drop-keys : SoundKeys n (drop_after m s) ws
     drop-keys = subst (λ (v : Meaning). SoundKeys n v ws) (sym drop-is)
-        (make-keys n (with_held m (drops s m.held)) ws (drop-sound m k.meaning s drop-held)
+        (make-keys n (with_held m (drops s m.held)) ws (drop-sound m k.meaning s drop-done)
         (ap (drops s) was-held ∙ remove-insert (λ x. x) s (collect ws))
         (λ t h. k.given t (holds-drop t s m.held h)))
 

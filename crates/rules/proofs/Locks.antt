@@ -33,7 +33,8 @@ use Rattle.rules.specs.Rows.{blank, no_row, row, locked_for, locked, lock_enable
 use Rattle.rules.specs.Sessions.{owner, or_else, opening_refusal}
 use Rattle.rules.specs.Sound.{Sound, is_global}
 use Rattle.rules.specs.Units.{no_unit, exists, unit, with_unit, without_unit}
-use Rattle.rules.proofs.Accepted.{create_checks, all-passed, else-none}
+use Rattle.vault.proofs.Checks.{all-passed}
+use Rattle.rules.proofs.Accepted.{create_checks, else-none}
 use Rattle.rules.proofs.Alike.{Alike, alike-renewed, alike-control}
 use Rattle.rules.proofs.Blocks.{key-is, control-is, control-other, control-global, key-new, key-given, renewed-key, under-global}
 use Rattle.rules.proofs.Lookups.{lookup-insert, lookup-remove, has-remove-other, has-remove-same}

@@ -24,7 +24,8 @@ use Rattle.rules.specs.Rows.{blank, is_single_user, each_row_by}
 use Rattle.rules.specs.Sessions.{or_else, opening_refusal}
 use Rattle.rules.specs.Sound.{Sound}
 use Rattle.rules.specs.Units.{exists, unit}
-use Rattle.rules.proofs.Accepted.{all-passed, else-none}
+use Rattle.vault.proofs.Checks.{all-passed}
+use Rattle.rules.proofs.Accepted.{else-none}
 use Rattle.rules.proofs.Whole.{stays-sound, next-point, answered}
 
 pub sharing-is-a-common-block : SharingIsACommonBlock

@@ -25,7 +25,8 @@ use Rattle.rules.specs.Questions.{key_or}
 use Rattle.rules.specs.Rows.{blank, no_row, row, is_free, is_a_unit_row, covers, each_row_by, is_single_user, relocked, with_kind, with_flags, with_range, anew, unit_row_of, range_row_of, range_over, is_there, is_free_there, any_row}
 use Rattle.rules.specs.Sound.{Sound, SoundRows, unit_fits, row_fits, is_global, policy_fits, serial_of, row_key, serials}
 use Rattle.rules.specs.Units.{no_unit, valid, exists, unit, with_unit, without_unit}
-use Rattle.rules.proofs.Accepted.{create_checks, delete_checks, all-passed}
+use Rattle.vault.proofs.Checks.{all-passed}
+use Rattle.rules.proofs.Accepted.{create_checks, delete_checks}
 use Rattle.rules.proofs.Keys.{keys-as, put-capacity, drop-capacity, put-done, put-keys, drop-done, drop-keys, collect-unit, collect-without, filled, cleared}
 use Rattle.rules.proofs.Lookups.{lookup-insert, lookup-remove, has-remove-other, all_insert, all_remove}
 use Rattle.rules.proofs.Renewals.{unit-key, renewed-sound, valid-of-row, valid-of-unit}

@@ -18,7 +18,8 @@ use Rattle.rules.specs.Rows.{blank, is_there}
 use Rattle.rules.specs.Sessions.{opening_refusal}
 use Rattle.rules.specs.Sound.{Sound}
 use Rattle.rules.specs.Units.{exists}
-use Rattle.rules.proofs.Accepted.{Passed, all-passed, else-none}
+use Rattle.vault.proofs.Checks.{Passed, all-passed}
+use Rattle.rules.proofs.Accepted.{else-none}
 use Rattle.rules.proofs.Alike.{alike-renewed, alike-free}
 use Rattle.rules.proofs.Renewals.{range-parts}
 use Rattle.rules.proofs.Sounds.{create-sound, delete-sound, locks-sound, unit-row-sound, range-row-sound, range-set-sound, given-up-sound, generated-sound, format-sound, reset-sound, reactivate-sound}

@@ -1,8 +1,6 @@
 ghost use Rattle.std.specs.Prelude.{◌≡◌};
 ghost use Rattle.rules.specs.Rows.{suits, free_of, shares};
 
-use packed::Test;
-
 /// The five lock flags of a row.
 #[derive(Clone, Copy, PartialEq, Eq)]
 pub struct Flags {
@@ -121,13 +119,5 @@ impl Sought {
             ) => u == unit && shares_block(own_start, own_length, start, length),
             _ => false,
         }
-    }
-}
-
-impl Test<Row> for Sought {
-    ghost passes = { λ sought row. suits sought row };
-
-    fn test(&self, row: &Row) -> bool {
-        self.suits(row)
     }
 }

@@ -3,7 +3,7 @@ ghost use Rattle.std.specs.Prelude.{◌≡◌, ℕ};
 use packed::Keyed;
 
 /// A unit: an NVMe namespace or a SCSI logical unit, with one media key of its own.
-#[derive(Clone, Copy)]
+#[derive(Clone, Copy, Default)]
 pub struct LogicalUnit {
     pub number: u32,
     pub blocks: u64,

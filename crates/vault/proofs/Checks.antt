@@ -1,5 +1,5 @@
 -- What follows where a call is refused, and where it is accepted.
-use Rattle.std.proofs.Common.{◌≡◌, Bool, true, false, cond, List, [], ◌∷◌, Some, None, Ok, Err, Option, Result, refl}
+use Rattle.std.proofs.Common.{◌≡◌, Bool, true, false, cond, List, [], ◌∷◌, Some, None, Ok, Option, Result, refl}
 use Rattle.std.specs.List.{AllByRecursion}
 use Rattle.vault.specs.Checks.{first_of, answer, unless}
 
@@ -8,13 +8,8 @@ module _ {A C : Type 0} (done : A) where
   accepted None e = refl
   accepted (Some c) e = absurd (cc)
 
-  pub unchanged : {S : Type 0} (c : C) (was after : S) (refusal : Option C) → ◌≡◌ {A = Result A C} (Err c) (answer refusal done) → was ≡ unless refusal was after
-  unchanged c was after None e = absurd (cc)
-  unchanged c was after (Some d) e = refl
-
-  pub changed : {S : Type 0} (was after : S) (refusal : Option C) → ◌≡◌ {A = Result A C} (Ok done) (answer refusal done) → after ≡ unless refusal was after
-  changed was after None e = refl
-  changed was after (Some c) e = absurd (cc)
+pub changed : {C S : Type 0} (refusal : Option C) (was after : S) → refusal ≡ None → after ≡ unless refusal was after
+changed refusal was after e = rw e
 
 -- none of the checks applied
 abbrev pub Passed : {C : Type 0} → List (Bool × C) → Type 0

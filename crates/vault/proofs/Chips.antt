@@ -13,7 +13,7 @@ use Rattle.packed.specs.Rising.{rises}
 use Rattle.packed.proofs.Search.{found_within, found-passes}
 use Rattle.packed.proofs.Order.{has-absent}
 use Rattle.vault.specs.Serials.{holds, adds, drops, collect}
-use Rattle.vault.specs.Meaning.{Meaning, Outcome, sound, with_held, put_answer, swap_answer, drop_answer}
+use Rattle.vault.specs.Meaning.{Meaning, Outcome, sound, with_held, put_refusal, swap_refusal, drop_refusal}
 use Rattle.vault.specs.Kinds.{chip_check, chip_meaning, fit, lowest, overwritten, nothing}
 use Rattle.vault.proofs.Words.{rises-collect, length-collect, holds-collect, holds-zero, collect-set, collect-clear, collect-swap}
 use Rattle.vault.proofs.Requests.{sound-from, put-passed, swap-passed, drop-passed}
@@ -83,7 +83,7 @@ module _ (used : ℕ) (words : List ℕ) (le : used ≤ length words) where
   nonzero : (s : ℕ) → holds s meaning.held ≡ true → (s ≡ 0 → ⊥) × (holds s (take used words) ≡ true)
   nonzero s h = let k = holds-serial s in ((λ z. let z' : ◌≡◌ {A = ℕ} 0 1 = grind (arith, nat_tests) in omega arith), grind (arith, nat_tests))
 
-  module _ (s : ℕ) (e : ◌≡◌ {A = Outcome} (Ok tt) (put_answer meaning s)) where
+  module _ (s : ℕ) (e : put_refusal meaning s ≡ None) where
     pub put-there : holds 0 (take used words) ≡ true
     put-there = let p = put-passed meaning s e in let k = holds-zero (take used words) in let n = size in grind (arith, nat_tests)
 
@@ -92,7 +92,7 @@ module _ (used : ℕ) (words : List ℕ) (le : used ≤ length words) where
         let p = put-passed meaning s e in
         meant 0 put-there s _ (collect-set (take used words) (lowest used words 0) s (inside 0 put-there) (word 0 put-there) (grind (arith, nat_tests)))
 
-  module _ (s t : ℕ) (e : ◌≡◌ {A = Outcome} (Ok tt) (swap_answer meaning s t)) where
+  module _ (s t : ℕ) (e : swap_refusal meaning s t ≡ None) where
     pub swap-there : holds s (take used words) ≡ true
     swap-there = (nonzero s (swap-passed meaning s t e).0).1
 
@@ -101,7 +101,7 @@ module _ (used : ℕ) (words : List ℕ) (le : used ≤ length words) where
         let p = swap-passed meaning s t e in
         meant s swap-there t _ (collect-swap (take used words) (lowest used words s) s (inside s swap-there) (word s swap-there) (nonzero s p.0).0 t (grind (arith, nat_tests)))
 
-  module _ (s : ℕ) (e : ◌≡◌ {A = Outcome} (Ok tt) (drop_answer meaning s)) where
+  module _ (s : ℕ) (e : drop_refusal meaning s ≡ None) where
     pub drop-there : holds s (take used words) ≡ true
     drop-there = (nonzero s (drop-passed meaning s e)).1
 

@@ -54,7 +54,7 @@ impl KeySet for KeyFile {
     }
 
     fn count(&self) -> u32 {
-        self.serials.as_slice().len() as u32
+        self.serials.len() as u32
     }
 
     fn holds(&self, serial: u32) -> bool {
