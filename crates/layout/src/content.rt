@@ -1,5 +1,9 @@
 use crate::rows::Rows;
-use crate::units::Units;
+use packed::SortedList;
+use rules::unit::LogicalUnit;
+
+/// The units of a drive, by their numbers.
+pub type Units = SortedList<LogicalUnit, 16>;
 
 /// What a table stores.
 #[derive(Drop)]

@@ -5,4 +5,3 @@ pub mod content;
 pub mod edits;
 pub mod lookups;
 pub mod rows;
-pub mod units;

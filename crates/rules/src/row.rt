@@ -1,5 +1,5 @@
 ghost use Rattle.std.specs.Prelude.{◌≡◌};
-ghost use Rattle.rules.specs.Rows.{suits, free_of, shares};
+ghost use Rattle.rules.specs.Rows.{locked, suits, free_of, shares};
 
 /// The five lock flags of a row.
 #[derive(Clone, Copy, PartialEq, Eq)]
@@ -9,6 +9,24 @@ pub struct Flags {
     pub read_locked: bool,
     pub write_locked: bool,
     pub lock_on_reset: bool,
+}
+
+impl Flags {
+    /// Lock on reset is set, and nothing else.
+    pub const BLANK: Flags = Flags {
+        read_lock_enabled: false,
+        write_lock_enabled: false,
+        read_locked: false,
+        write_locked: false,
+        lock_on_reset: true,
+    };
+
+    /// Whether a row with these flags is locked for reading or for writing.
+    pub fn is_locked(self) -> bool
+        ensures { result ≡ locked self }
+    {
+        self.read_lock_enabled && self.read_locked || self.write_lock_enabled && self.write_locked
+    }
 }
 
 /// What a row is for.
