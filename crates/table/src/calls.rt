@@ -5,17 +5,11 @@ ghost use Rattle.rules.specs.Questions.{unused_answer, controls_answer};
 ghost use Rattle.vault.specs.Serials.{holds};
 ghost use Rattle.layout.specs.View.{drive};
 
-use crate::refusals::*;
-use crate::state::*;
-use layout::content::*;
-use layout::edits::*;
-use layout::lookups::*;
-use layout::rows::*;
-use layout::units::*;
-use rules::cause::*;
-use rules::numbering::*;
-use rules::row::*;
-use rules::unit::*;
+use crate::state::Table;
+use rules::cause::Cause;
+use rules::numbering::Numbering;
+use rules::row::Row;
+use rules::unit::{Control, LogicalUnit};
 use vault::Vault;
 
 /// The calls of a drive, by its model: what each answers, and what it leaves.
@@ -61,32 +55,24 @@ pub trait Calls {
 }
 
 impl<'v, V: Vault, N: Numbering> Calls for Table<'v, V, N> {
-    ghost model = { λ t. drive t.layout t.closed N.Numbering.BOUNDS (V.Vault.meaning t.vault.now) };
+    ghost model = { λ t. drive t.layout t.closed N.Numbering.BOUNDS (V.KeySet.meaning t.vault.now) };
 
-    ghost lenders = { λ t. t.vault.ghost_name ∷ V.Vault.lenders t.vault.now };
+    ghost lenders = { λ t. t.vault.ghost_name ∷ V.KeySet.lenders t.vault.now };
 
     fn create(&mut self, number: u32, blocks: u64) -> Result<(), Cause> {
-        match self.create_refusal(number, blocks) {
-            Some(cause) => Err(cause),
-            None => {
-                // There is room, and a fresh serial is held by nobody: the vault does not refuse.
-                let _ = self.vault.put(self.layout.next);
-                self.layout.create(number, blocks);
-                Ok(())
-            }
-        }
+        self.check_create(number, blocks)?;
+        // There is room, and a fresh serial is held by nobody: the vault does not refuse.
+        let _ = self.vault.put(self.layout.next);
+        self.layout.create(number, blocks);
+        Ok(())
     }
 
     fn delete(&mut self, number: u32) -> Result<(), Cause> {
-        match self.delete_refusal(number) {
-            Some(cause) => Err(cause),
-            None => {
-                if let Some(unit) = self.layout.delete(number) {
-                    let _ = self.vault.drop_key(unit.serial);
-                }
-                Ok(())
-            }
+        self.check_delete(number)?;
+        if let Some(unit) = self.layout.delete(number) {
+            let _ = self.vault.drop_key(unit.serial);
         }
+        Ok(())
     }
 
     fn unused(&self) -> Result<u32, Cause> {
@@ -100,9 +86,7 @@ impl<'v, V: Vault, N: Numbering> Calls for Table<'v, V, N> {
         if self.closed {
             return Err(Cause::Closed);
         }
-        let Some(unit) = self.layout.units.get(number) else {
-            return Err(Cause::NoSuchUnit);
-        };
+        let unit = self.layout.units.get(number).ok_or(Cause::NoSuchUnit)?;
         if unit.blocks <= block {
             return Err(Cause::BlockOutOfRange);
         }

@@ -1,19 +1,15 @@
 ghost use Rattle.std.specs.Prelude.{◌≡◌, ℕ};
+ghost use Rattle.rules.specs.Commands.{create_answer, delete_answer};
 ghost use Rattle.rules.specs.Drive.{unused_keys};
-ghost use Rattle.rules.specs.Commands.{create_refusal, delete_refusal};
 ghost use Rattle.layout.specs.View.{drive};
 
-use crate::state::*;
-use layout::content::*;
-use layout::lookups::*;
-use layout::rows::*;
-use layout::units::*;
-use rules::cause::*;
-use rules::numbering::*;
-use rules::row::*;
+use crate::state::Table;
+use rules::cause::Cause;
+use rules::numbering::{Numbering, is_valid};
+use rules::row::Sought;
 use vault::Vault;
 
-// Why a command would be refused: the first of its checks that applies.
+// The checks of a command in their order.
 impl<'v, V: Vault, N: Numbering> Table<'v, V, N> {
     /// How many keys the vault has room for.
     pub(crate) fn unused_keys(&self) -> u32
@@ -22,44 +18,44 @@ impl<'v, V: Vault, N: Numbering> Table<'v, V, N> {
         self.vault.capacity().saturating_sub(self.vault.count())
     }
 
-    pub(crate) fn create_refusal(&self, number: u32, blocks: u64) -> Option<Cause>
-        ensures { result ≡ create_refusal (drive self.now.layout self.now.closed N.BOUNDS (V.meaning self.now.vault.now)) number blocks }
+    pub(crate) fn check_create(&self, number: u32, blocks: u64) -> Result<(), Cause>
+        ensures { result ≡ create_answer (drive self.now.layout self.now.closed N.BOUNDS (V.meaning self.now.vault.now)) number blocks }
     {
         if self.closed {
-            return Some(Cause::Closed);
+            return Err(Cause::Closed);
         }
         if !is_valid::<N>(number) {
-            return Some(Cause::NoSuchUnit);
+            return Err(Cause::NoSuchUnit);
         }
-        if self.layout.units.exists(number) {
-            return Some(Cause::UnitExists);
+        if self.layout.units.contains(number) {
+            return Err(Cause::UnitExists);
         }
         if blocks < 1 || blocks > 0x1_0000_0000_0000 {
-            return Some(Cause::BadSize);
+            return Err(Cause::BadSize);
         }
-        if self.layout.units.count() >= 16 {
-            return Some(Cause::SixteenUnits);
+        if self.layout.units.len() >= 16 {
+            return Err(Cause::SixteenUnits);
         }
         if self.unused_keys() == 0 {
-            return Some(Cause::NoUnusedKey);
+            return Err(Cause::NoUnusedKey);
         }
         if self.layout.next == u32::MAX {
-            return Some(Cause::SerialsRunOut);
+            return Err(Cause::SerialsRunOut);
         }
         if self.layout.global_locked() {
-            return Some(Cause::Locked);
+            return Err(Cause::Locked);
         }
-        None
+        Ok(())
     }
 
-    pub(crate) fn delete_refusal(&self, number: u32) -> Option<Cause>
-        ensures { result ≡ delete_refusal (drive self.now.layout self.now.closed N.BOUNDS (V.meaning self.now.vault.now)) number }
+    pub(crate) fn check_delete(&self, number: u32) -> Result<(), Cause>
+        ensures { result ≡ delete_answer (drive self.now.layout self.now.closed N.BOUNDS (V.meaning self.now.vault.now)) number }
     {
         if self.closed {
-            return Some(Cause::Closed);
+            return Err(Cause::Closed);
         }
-        if !self.layout.units.exists(number) {
-            return Some(Cause::NoSuchUnit);
+        if !self.layout.units.contains(number) {
+            return Err(Cause::NoSuchUnit);
         }
         if self
             .layout
@@ -67,11 +63,11 @@ impl<'v, V: Vault, N: Numbering> Table<'v, V, N> {
             .find(Sought::UnitRowOf { unit: number })
             .is_some()
         {
-            return Some(Cause::HasUnitRow);
+            return Err(Cause::HasUnitRow);
         }
         if self.layout.global_locked() {
-            return Some(Cause::Locked);
+            return Err(Cause::Locked);
         }
-        None
+        Ok(())
     }
 }

@@ -1,5 +1,5 @@
 -- What follows where a call is refused, and where it is accepted.
-use Rattle.std.proofs.Common.{◌≡◌, Bool, true, false, cond, List, [], ◌∷◌, Some, None, Ok, Option, Result, refl}
+use Rattle.std.proofs.Common.{◌≡◌, Bool, true, false, cond, List, [], ◌∷◌, Some, None, Ok, Err, Option, Result, refl}
 use Rattle.std.specs.List.{AllByRecursion}
 use Rattle.vault.specs.Checks.{first_of, answer, unless}
 
@@ -7,6 +7,10 @@ module _ {A C : Type 0} (done : A) where
   pub accepted : (refusal : Option C) → ◌≡◌ {A = Result A C} (Ok done) (answer refusal done) → refusal ≡ None
   accepted None e = refl
   accepted (Some c) e = absurd (cc)
+
+  pub unchanged : {S : Type 0} (refusal : Option C) (c : C) (was after : S) → ◌≡◌ {A = Result A C} (Err c) (answer refusal done) → was ≡ unless refusal was after
+  unchanged (Some d) c was after e = refl
+  unchanged None c was after e = absurd (cc)
 
 pub changed : {C S : Type 0} (refusal : Option C) (was after : S) → refusal ≡ None → after ≡ unless refusal was after
 changed refusal was after e = rw e
