@@ -1,4 +1,4 @@
-ghost use Rattle.std.specs.Prelude.{◌≡◌, ℕ, ◌<◌, ◌∷◌, replicate, IfSome};
+ghost use Rattle.std.specs.Prelude.{◌≡◌, ℕ, ◌<◌, ◌∷◌, length, replicate, IfSome};
 ghost use Rattle.rules.specs.Rows.{free_row, global_row, row, lowest_row};
 
 use rules::row::{Flags, Kind, Row, Sought, Standing};
@@ -41,7 +41,8 @@ impl Rows {
 
     /// The rows, from row 0.
     pub fn as_slice(&self) -> &[Row]
-        ensures { result.now ≡ self.now }
+        ensures rows { result.now ≡ self.now }
+        ensures seventeen { length self.now ≡ 17 }
     {
         &self.list
     }

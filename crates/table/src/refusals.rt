@@ -1,8 +1,8 @@
 ghost use Rattle.std.specs.Prelude.{◌≡◌, ℕ};
 ghost use Rattle.rules.specs.Commands.{create_answer, delete_answer};
 ghost use Rattle.rules.specs.Drive.{unused_keys};
-ghost use Rattle.layout.specs.View.{drive};
 
+use crate::calls::Calls;
 use crate::state::Table;
 use rules::cause::Cause;
 use rules::numbering::{Numbering, is_valid};
@@ -13,13 +13,13 @@ use vault::Vault;
 impl<'v, V: Vault, N: Numbering> Table<'v, V, N> {
     /// How many keys the vault has room for.
     pub(crate) fn unused_keys(&self) -> u32
-        ensures { result ≡ unused_keys (drive self.now.layout self.now.closed N.BOUNDS (V.meaning self.now.vault.now)) }
+        ensures { result ≡ unused_keys (⟦<Table<'v, V, N> as Calls>⟧.model self.now) }
     {
         self.vault.capacity().saturating_sub(self.vault.count())
     }
 
     pub(crate) fn check_create(&self, number: u32, blocks: u64) -> Result<(), Cause>
-        ensures { result ≡ create_answer (drive self.now.layout self.now.closed N.BOUNDS (V.meaning self.now.vault.now)) number blocks }
+        ensures { result ≡ create_answer (⟦<Table<'v, V, N> as Calls>⟧.model self.now) number blocks }
     {
         if self.closed {
             return Err(Cause::Closed);
@@ -49,7 +49,7 @@ impl<'v, V: Vault, N: Numbering> Table<'v, V, N> {
     }
 
     pub(crate) fn check_delete(&self, number: u32) -> Result<(), Cause>
-        ensures { result ≡ delete_answer (drive self.now.layout self.now.closed N.BOUNDS (V.meaning self.now.vault.now)) number }
+        ensures { result ≡ delete_answer (⟦<Table<'v, V, N> as Calls>⟧.model self.now) number }
     {
         if self.closed {
             return Err(Cause::Closed);

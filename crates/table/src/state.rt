@@ -1,7 +1,7 @@
 ghost use Rattle.std.specs.Prelude.{◌≡◌, ℕ, Bool};
 ghost use Rattle.rules.specs.LayingOut.{fresh_check, fresh};
-ghost use Rattle.layout.specs.View.{drive};
 
+use crate::calls::Calls;
 use layout::content::Layout;
 use rules::cause::Cause;
 use rules::numbering::Numbering;
@@ -35,7 +35,7 @@ pub fn fresh_check<V: Vault>(vault: &V) -> Result<(), Cause>
 impl<'v, V: Vault, N: Numbering> Table<'v, V, N> {
     /// Lays a table out blank; a closed one where `fresh_check` refuses.
     pub fn fresh(vault: &'v mut V) -> Table<'v, V, N>
-        ensures model { drive result.layout result.closed N.BOUNDS (V.meaning result.vault.now) ≡ fresh N.BOUNDS (V.meaning vault.old) }
+        ensures model { ⟦<Table<'v, V, N> as Calls>⟧.model result ≡ fresh N.BOUNDS (V.meaning vault.old) }
         ensures same { result.vault.now ≡ vault.old }
         ensures lent { result.vault.ghost_name ≡ vault.entry.ghost_name }
     {
