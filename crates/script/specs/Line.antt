@@ -1,5 +1,5 @@
 -- The words of a line: what stands between spaces, where anything does, before any `#`.
-use Rattle.std.specs.Prelude.{◌≡◌, ℕ, true, cond, ◌⊎◌, List, [], ◌∷◌, ◌++◌, is_err, Some, None, Ok, Err, Option, Result, ◌==◌}
+use Rattle.std.specs.Prelude.{◌≡◌, ℕ, true, cond, ◌⊎◌, List, [], ◌∷◌, ◌++◌, is_err, Ok, Err, Result, ◌==◌}
 use Rattle.std.specs.Borrow.{Bor}
 use Rattle.numerals.specs.declared.NumberFault.{NumberFault}
 
@@ -31,17 +31,12 @@ abbrev pub spaced : List (List ℕ) → List ℕ
 spaced [] = []
 spaced (w ∷ ws) = w ++ after_spaces ws
 
--- r is the first of the words ws, and left are the others
-abbrev pub Took : List (List ℕ) → Option (Bor (List ℕ)) → List (List ℕ) → Type 0
-Took ws None left = (ws ≡ []) × (left ≡ [])
-Took ws (Some w) left = ws ≡ w.now ∷ left
-
--- the same of a word that has to be there
+-- r is the first of the words ws, which has to be there, and left are the others
 abbrev pub Given : {E : Type 0} → List (List ℕ) → Result (Bor (List ℕ)) E → List (List ℕ) → Type 0
 Given ws (Ok w) left = ws ≡ w.now ∷ left
 Given ws (Err e) left = ws ≡ []
 
 -- r is the number that the first word writes; an error says that there is no word, or no such number
-abbrev pub Counted : {E : Type 0} → (List ℕ → Result ℕ NumberFault) → List (List ℕ) → Result ℕ E → List (List ℕ) → Type 0
+abbrev pub Counted : {N E : Type 0} → (List ℕ → Result N NumberFault) → List (List ℕ) → Result N E → List (List ℕ) → Type 0
 Counted reads ws (Ok n) left = (w : List ℕ) × (ws ≡ w ∷ left) × (reads w ≡ Ok n)
 Counted reads ws (Err e) left = (ws ≡ []) ⊎ ((w : List ℕ) × (ws ≡ w ∷ left) × (is_err (reads w) ≡ true))

@@ -35,6 +35,10 @@ keyword_of (Delete unit) = codes "delete"
 keyword_of (Controls unit block) = codes "controls"
 keyword_of Unused = codes "unused"
 
+-- the call has this keyword, the words ws after it say what it is called with, and the words left follow
+abbrev pub Called : List ℕ → Call → List (List ℕ) → List (List ℕ) → Type 0
+Called keyword k ws left = (keyword_of k ≡ keyword) × Arguments k ws left
+
 -- the words of a line say the call
 abbrev pub Says : Call → List (List ℕ) → Type 0
 Says k [] = ⊥
