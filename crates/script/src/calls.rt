@@ -5,7 +5,7 @@ ghost use Rattle.script.specs.Spelling.{Reads};
 use crate::fault::Fault;
 
 /// How the drive numbers its units.
-#[derive(Clone, Copy)]
+#[derive(Clone, Copy, Debug, PartialEq, Eq)]
 pub enum NumberingKind {
     Nvme,
     Scsi,
@@ -27,7 +27,7 @@ impl<'a> TryFrom<&'a str> for NumberingKind {
 }
 
 /// Where the drive keeps its keys.
-#[derive(Clone, Copy)]
+#[derive(Clone, Copy, Debug, PartialEq, Eq)]
 pub enum VaultKind {
     Chip,
     File,
@@ -49,7 +49,7 @@ impl<'a> TryFrom<&'a str> for VaultKind {
 }
 
 /// The table that the first call lays out, blank, over an empty vault.
-#[derive(Clone, Copy)]
+#[derive(Clone, Copy, Debug, PartialEq, Eq)]
 pub struct Layout {
     pub numbering: NumberingKind,
     pub vault: VaultKind,
@@ -57,7 +57,7 @@ pub struct Layout {
 }
 
 /// A call on the table that is laid out.
-#[derive(Clone, Copy)]
+#[derive(Clone, Copy, Debug, PartialEq, Eq)]
 pub enum Call {
     Create { unit: u32, blocks: u64 },
     Delete { unit: u32 },
