@@ -28,15 +28,10 @@ impl<'a> Iterator for Words<'a> {
     ghost remaining = { item_count (λ words. words) };
 
     fn next(&mut self) -> Option<&'a str> {
-        while let Some((word, rest)) = self.rest.split_once(' ') {
-            self.rest = rest;
-            if !word.is_empty() {
-                return Some(word);
-            }
-        }
-        let last = self.rest;
-        self.rest = "";
-        if last.is_empty() { None } else { Some(last) }
+        let text = self.rest.trim_start_matches(' ');
+        let (word, rest) = text.split_once(' ').unwrap_or((text, ""));
+        self.rest = rest;
+        (!word.is_empty()).then_some(word)
     }
 }
 
@@ -45,10 +40,8 @@ impl<'a> Words<'a> {
     pub fn new(line: &'a str) -> Words<'a>
         ensures { result ≡ words_of (uncommented line.now) }
     {
-        match line.split_once('#') {
-            Some((rest, _)) => Words { rest },
-            None => Words { rest: line },
-        }
+        let (rest, _) = line.split_once('#').unwrap_or((line, ""));
+        Words { rest }
     }
 
     /// A word that has to be there.

@@ -1,5 +1,5 @@
 -- The words that are kept are put together from the words that were read, so they say the same.
-use Rattle.std.proofs.Common.{◌∷◌, string_bytes, rules}
+use Rattle.std.proofs.Common.{string_bytes, rules}
 use Rattle.std.proofs.ByRecursion.{All-push}
 use Rattle.script.specs.Line.{uncommented}
 use Rattle.script.proofs.Cuts.{again}
@@ -8,7 +8,7 @@ use Rattle.script.proofs.parser.read_line.Goals.{in-None+in_ok-layout-in-None+in
 
 pub returns : goal.returns
 returns c =
-    let kept = again (uncommented c.args.line.now) (string_bytes c.in_ok-joined.joined) (c.in-Some.first.now ∷ c.next.new.self) (search rules) (search rules) in
+    let kept = again (string_bytes c.in_ok-joined.joined) (uncommented c.args.line.now) (search rules) in
     elim c.match-script.branch [
       | in-None+in_ok-layout-in-None+in-Some-1 w ↦ search rules
       | in-None+in_ok-layout-in-None+in-None-1 w ↦ search rules
