@@ -1,5 +1,5 @@
 -- Which call the words of a line say.
-use Rattle.std.specs.Prelude.{◌≡◌, ℕ, ◌^◌, List, [], ◌∷◌, Some, None, Ok, vec_items, string_bytes, codes, Option}
+use Rattle.std.specs.Prelude.{◌≡◌, ℕ, ◌^◌, List, [], ◌∷◌, IfSome, Ok, vec_items, string_bytes, codes, Option}
 use Rattle.std.specs.List.{AllByRecursion}
 use Rattle.script.specs.Line.{words_of}
 use Rattle.numerals.specs.Number.{read, fitted}
@@ -71,5 +71,4 @@ Faithful s = LaysOut s.layout (words_of (string_bytes s.layout_words)) × AllByR
 
 -- the same of a script that may not have begun
 abbrev pub SoFar : Option Script → Type 0
-SoFar None = Unit {0}
-SoFar (Some s) = Faithful s
+SoFar script = IfSome script Faithful
