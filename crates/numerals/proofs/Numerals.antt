@@ -1,8 +1,8 @@
 -- What `from_str_radix` answers at a text of digits alone: it has no sign, so the value alone decides.
-use Rattle.std.proofs.Common.{◌≡◌, ℕ, ◌^◌, ◌<◌, ◌≤◌, true, false, List, [], ◌∷◌, length, Ok, Err, Result, refl, rules}
+use Rattle.std.proofs.Common.{◌≡◌, ℕ, ◌^◌, ◌<◌, ◌≤◌, true, List, [], ◌∷◌, length, Ok, Err, Result, rules}
 use Rattle.std.specs.Result.{OkIff}
 use Rattle.std.specs.Str.Parse.{AllDigits, ParsesUnsigned, digits_value, without_leading_plus}
-use Rattle.numerals.specs.Number.{all_digits, numeral, is_hex}
+use Rattle.numerals.specs.Number.{all_digits, numeral}
 
 pub digits-all : (base : ℕ) (bs : List ℕ) → all_digits base bs ≡ true → AllDigits base bs
 digits-all base [] h = tt
@@ -25,9 +25,3 @@ converted base bs (Err e) small h reads = λ fits.
     let p = no_plus base bs small (all_of base bs h).0 in
     let q = rw p at reads in
     q (((all_of base bs h).1, digits-all base bs (all_of base bs h).0), fits)
-
--- a text that is no `0x` and something more is not hexadecimal
-pub not-hex : (bs : List ℕ) → ((rest : List ℕ) → bs ≡ 48 ∷ 120 ∷ rest → ⊥) → is_hex bs ≡ false
-not-hex [] no-rest = refl
-not-hex (a ∷ []) no-rest = search rules
-not-hex (a ∷ b ∷ rest) no-rest = let h = no-rest rest in search rules

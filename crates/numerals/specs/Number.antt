@@ -1,15 +1,15 @@
 -- What number a word writes: decimal, or hexadecimal after `0x`.
-use Rattle.std.specs.Prelude.{ℕ, ◌^◌, Bool, true, cond, ◌&&◌, List, [], ◌∷◌, length, take, drop, Ok, Err, codes, Result, nat_lt}
+use Rattle.std.specs.Prelude.{ℕ, ◌^◌, Bool, cond, ◌&&◌, List, length, take, drop, Ok, Err, codes, Result, nat_lt}
+use Rattle.std.specs.List.{list_all}
 use Rattle.std.specs.Str.Parse.{digits_value}
-use Rattle.std.specs.Char.{digit_value}
+use Rattle.std.specs.Char.{is_digit}
 use Rattle.std.specs.Str.{bytes_eq}
 use Rattle.numerals.specs.declared.NumberFault.{NumberFault}
 use Rattle.numerals.specs.declared.NumberFault.TheVariants.{NotANumber, TooLarge}
 
 -- each byte is a digit of the base
 abbrev pub all_digits : ℕ → List ℕ → Bool
-all_digits base [] = true
-all_digits base (c ∷ cs) = nat_lt (digit_value c) base && all_digits base cs
+all_digits base bs = list_all (λ c. is_digit c base) bs
 
 -- one digit or more, and nothing else
 abbrev pub numeral : ℕ → List ℕ → Bool

@@ -1,8 +1,9 @@
 //! Numbers: decimal, or hexadecimal after `0x`.
 #![tactic(auto)]
 
-ghost use Rattle.std.specs.Prelude.{◌≡◌, ◌^◌, ◌≤◌};
+ghost use Rattle.std.specs.Prelude.{◌≡◌, ℕ, ◌^◌, ◌≤◌, List, Result};
 ghost use Rattle.numerals.specs.Number.{numeral, read_in, read, fitted};
+ghost use Rattle.numerals.specs.declared.NumberFault.{NumberFault};
 
 /// Why a word is not a number that can be used.
 #[derive(Clone, Copy, Debug, PartialEq, Eq)]
@@ -11,18 +12,34 @@ pub enum NumberFault {
     TooLarge,
 }
 
-/// Whether the text is one digit of the radix or more, and nothing else.
-fn is_numeral(text: &[u8], radix: u32) -> bool
-    requires low { 2 ≤ radix }
-    requires high { radix ≤ 36 }
-    ensures { result ≡ numeral radix text.now }
-{
-    for byte in text {
-        if !char::from(*byte).is_digit(radix) {
-            return false;
+/// A type of numbers that a word can write.
+pub trait Number: Sized {
+    // what a word writes
+    ghost written: { List ℕ → Result Self NumberFault };
+
+    /// The number that the word writes, where it fits the type.
+    fn parse(word: &str) -> Result<Self, NumberFault>
+        ensures { result ≡ written word.now };
+}
+
+impl Number for u64 {
+    ghost written = { read };
+
+    fn parse(word: &str) -> Result<u64, NumberFault> {
+        match word.strip_prefix("0x") {
+            Some(digits) => number_in(digits, 16),
+            None => number_in(word, 10),
         }
     }
-    !text.is_empty()
+}
+
+impl Number for u32 {
+    ghost written = { λ word. fitted (2 ^ 32) (read word) };
+
+    fn parse(word: &str) -> Result<u32, NumberFault> {
+        let value = u64::parse(word)?;
+        u32::try_from(value).map_err(|_| NumberFault::TooLarge)
+    }
 }
 
 /// The number that the digits write in the radix.
@@ -35,29 +52,14 @@ fn number_in(digits: &str, radix: u32) -> Result<u64, NumberFault>
     if !is_numeral(digits.as_bytes(), radix) {
         return Err(NumberFault::NotANumber);
     }
-    match u64::from_str_radix(digits, radix) {
-        Ok(value) => Ok(value),
-        Err(_) => Err(NumberFault::TooLarge),
-    }
+    u64::from_str_radix(digits, radix).map_err(|_| NumberFault::TooLarge)
 }
 
-/// The number that a word writes.
-pub fn number(text: &str) -> Result<u64, NumberFault>
-    ensures { result ≡ read text.now }
+/// Whether the text is one digit of the radix or more, and nothing else.
+fn is_numeral(text: &[u8], radix: u32) -> bool
+    requires low { 2 ≤ radix }
+    requires high { radix ≤ 36 }
+    ensures { result ≡ numeral radix text.now }
 {
-    match text.strip_prefix("0x") {
-        Some(digits) => number_in(digits, 16),
-        None => number_in(text, 10),
-    }
-}
-
-/// The same, where the number has to fit 32 bits.
-pub fn number_u32(text: &str) -> Result<u32, NumberFault>
-    ensures { result ≡ fitted (2 ^ 32) (read text.now) }
-{
-    let value = number(text)?;
-    if value > u32::MAX as u64 {
-        return Err(NumberFault::TooLarge);
-    }
-    Ok(value as u32)
+    !text.is_empty() && text.iter().all(|byte| char::from(*byte).is_digit(radix))
 }

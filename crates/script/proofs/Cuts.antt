@@ -1,88 +1,54 @@
--- A text that is cut at a byte: at a space, the words before it and then those after it, and at a `#` what stands before it.
-use Rattle.std.proofs.Common.{◌≡◌, ℕ, suc, ◌<◌, Bool, true, false, cond, eqb, List, [], ◌∷◌, ◌++◌, length, get_or, refl, ap, ◌∙◌, append_assoc, append-nil, rules}
-use Rattle.script.specs.Line.{before, words_from, words_of, spaced, uncommented}
+-- A text that is cut at a space, and a text that is put together from words.
+use Rattle.std.proofs.Common.{◌≡◌, ℕ, Bool, true, false, cond, List, [], ◌∷◌, filter, length, nat_lt, refl, ap, sym, ◌∙◌, rules, ◌==◌}
+use Rattle.std.specs.List.{AllByRecursion, slice_split, onto_first}
+use Rattle.std.specs.Str.Pattern.{CutsPrefixes, FindsCharPrefix}
+use Rattle.std.proofs.lemmas.List.Elements.{All-from_recursion}
+use Rattle.std.proofs.lemmas.List.Splits.{slice_split_at, slice_split_none}
+use Rattle.std.proofs.lemmas.Str.Pattern.{drop_at_char}
+use Rattle.script.specs.Line.{words_of, spaced}
 
--- the byte d does not stand in the text
-abbrev pub Lacks : ℕ → List ℕ → Type 0
-Lacks d [] = Unit {0}
-Lacks d (c ∷ cs) = (c ≡ d → ⊥) × Lacks d cs
+-- spaces that are cut off the front are no part of a word
+pub spaces_cut : (s ns r : List ℕ) → CutsPrefixes (FindsCharPrefix 32) s ns r → words_of r ≡ words_of s
+spaces_cut s [] r h = ap words_of h
+spaces_cut s (n ∷ ns) r h =
+    let first = drop_at_char 32 h.0 0 n h.2 (search rules) in
+    ap words_of h.3 ∙ (sym (ap words_of first) ∙ spaces_cut s ns h.0 h.1)
 
-pub lacks : (d : ℕ) (bs : List ℕ) → ((i : ℕ) → i < length bs → get_or bs i 0 ≡ d → ⊥) → Lacks d bs
-lacks d [] h = tt
-lacks d (c ∷ cs) h = (λ e. h 0 (search rules) e, lacks d cs (λ i lt e. h (suc i) (search rules) e))
+abbrev Plain : List ℕ → Type 0
+Plain = AllByRecursion (λ c. (c == 32) ≡ false)
 
-pub cut : (w x rest : List ℕ) → Lacks 32 x → words_from w (x ++ (32 ∷ rest)) ≡ before (w ++ x) (words_from [] rest)
-cut w [] rest h = simp append-nil
-cut w (c ∷ cs) rest h =
-    let ne = h.0 in
-    let ih = cut (w ++ (c ∷ [])) cs rest h.1 in
-    let e = append_assoc w (c ∷ []) cs in
+abbrev IsWord : List ℕ → Type 0
+IsWord w = (nat_lt 0 (length w) ≡ true) × Plain w
+
+part : (b : Bool) (x : ℕ) (parts : List (List ℕ)) → (x == 32) ≡ b → AllByRecursion Plain parts → AllByRecursion Plain (cond b ([] ∷ parts) (onto_first x parts))
+part true x parts e h = (tt, h)
+part false x [] e h = ((e, tt), tt)
+part false x (p ∷ ps) e h = ((e, h.0), h.1)
+
+parts_plain : (text : List ℕ) → AllByRecursion Plain (slice_split (λ c. c == 32) text)
+parts_plain [] = (tt, tt)
+parts_plain (x ∷ xs) = part (x == 32) x (slice_split (λ c. c == 32) xs) refl (parts_plain xs)
+
+keep : (b : Bool) (w : List ℕ) (ws : List (List ℕ)) → nat_lt 0 (length w) ≡ b → Plain w → AllByRecursion IsWord ws → AllByRecursion IsWord (cond b (w ∷ ws) ws)
+keep true w ws e p h = ((e, p), h)
+keep false w ws e p h = h
+
+kept : (parts : List (List ℕ)) → AllByRecursion Plain parts → AllByRecursion IsWord (filter (λ w. nat_lt 0 (length w)) parts)
+kept [] h = tt
+kept (w ∷ ws) h = keep (nat_lt 0 (length w)) w (filter (λ v. nat_lt 0 (length v)) ws) refl h.0 (kept ws h.1)
+
+words-spaced : (ws : List (List ℕ)) → AllByRecursion IsWord ws → words_of (spaced ws) ≡ ws
+words-spaced [] h = refl
+words-spaced (w ∷ []) h =
+    let e = slice_split_none (λ c. c == 32) w (All-from_recursion _ w h.0.1) in
+    let some = h.0.0 in
+    search rules
+words-spaced (w ∷ v ∷ ws) h =
+    let e = slice_split_at (λ c. c == 32) w 32 (spaced (v ∷ ws)) (All-from_recursion _ w h.0.1) refl in
+    let some = h.0.0 in
+    let ih = words-spaced (v ∷ ws) h.1 in
     search rules
 
-pub uncut : (w x : List ℕ) → Lacks 32 x → words_from w x ≡ before (w ++ x) []
-uncut w [] h = simp append-nil
-uncut w (c ∷ cs) h =
-    let ne = h.0 in
-    let ih = uncut (w ++ (c ∷ [])) cs h.1 in
-    let e = append_assoc w (c ∷ []) cs in
-    search rules
-
--- the word before the first space
-pub first : (bs w rest : List ℕ) → bs ≡ w ++ (32 ∷ rest) → Lacks 32 w → 0 < length w → words_of bs ≡ w ∷ words_of rest
-first bs [] rest e h some = absurd (search rules)
-first bs (c ∷ cs) rest e h some = rw e (cut [] (c ∷ cs) rest h)
-
--- a text with no space is one word, or none
-pub only : (bs : List ℕ) → Lacks 32 bs → words_of bs ≡ before bs []
-only bs h = uncut [] bs h
-
-pub comment-cut : (x rest : List ℕ) → Lacks 35 x → uncommented (x ++ (35 ∷ rest)) ≡ x
-comment-cut [] rest h = refl
-comment-cut (c ∷ cs) rest h =
-    let ne = h.0 in
-    let ih = comment-cut cs rest h.1 in
-    search rules
-
-pub comment-none : (x : List ℕ) → Lacks 35 x → uncommented x ≡ x
-comment-none [] h = refl
-comment-none (c ∷ cs) h =
-    let ne = h.0 in
-    let ih = comment-none cs h.1 in
-    search rules
-
--- words are not empty, and have no space
-abbrev pub Good : List (List ℕ) → Type 0
-Good [] = Unit {0}
-Good (w ∷ ws) = (0 < length w) × Lacks 32 w × Good ws
-
-lacks-push : (w : List ℕ) (c : ℕ) → Lacks 32 w → (c ≡ 32 → ⊥) → Lacks 32 (w ++ (c ∷ []))
-lacks-push [] c h ne = (ne, tt)
-lacks-push (d ∷ ds) c h ne = (h.0, lacks-push ds c h.1 ne)
-
-good-before : (w : List ℕ) (ws : List (List ℕ)) → Lacks 32 w → Good ws → Good (before w ws)
-good-before [] ws h g = g
-good-before (c ∷ cs) ws h g = (search rules, h, g)
-
-good-by : (b : Bool) (a z : List (List ℕ)) → Good a → (b ≡ false → Good z) → Good (cond b a z)
-good-by true a z g f = g
-good-by false a z g f = f refl
-
-good-from : (w x : List ℕ) → Lacks 32 w → Good (words_from w x)
-good-from w [] h = good-before w [] h tt
-good-from w (c ∷ cs) h =
-    good-by (eqb c 32) (before w (words_from [] cs)) (words_from (w ++ (c ∷ [])) cs)
-    (good-before w (words_from [] cs) h (good-from [] cs tt))
-    (λ e. good-from (w ++ (c ∷ [])) cs (lacks-push w c h (λ is. search rules)))
-
-words-spaced : (ws : List (List ℕ)) → Good ws → words_of (spaced ws) ≡ ws
-words-spaced [] g = refl
-words-spaced ([] ∷ []) g = absurd (search rules)
-words-spaced ((c ∷ cs) ∷ []) g = ap words_of (append-nil (c ∷ cs)) ∙ only (c ∷ cs) g.1
-words-spaced (w ∷ v ∷ ws) g =
-    let ih = words-spaced (v ∷ ws) g.2 in
-    let e = first (spaced (w ∷ v ∷ ws)) w (spaced (v ∷ ws)) refl g.1 g.0 in
-    e ∙ ap (λ xs. w ∷ xs) ih
-
--- a text that is put together from words has those words
-pub again : (bs text : List ℕ) (ws : List (List ℕ)) → text ≡ spaced (words_of bs) → words_of bs ≡ ws → words_of text ≡ ws
-again bs text ws e h = ap words_of e ∙ (words-spaced (words_of bs) (good-from [] bs tt) ∙ h)
+-- a text that is put together from the words of another has those words
+pub again : (text bs : List ℕ) → text ≡ spaced (words_of bs) → words_of text ≡ words_of bs
+again text bs e = ap words_of e ∙ words-spaced (words_of bs) (kept _ (parts_plain bs))

@@ -1,5 +1,5 @@
 -- Which call the words of a line say.
-use Rattle.std.specs.Prelude.{◌≡◌, ℕ, ◌^◌, List, [], ◌∷◌, Some, None, Ok, vec_items, string_bytes, codes, Option}
+use Rattle.std.specs.Prelude.{◌≡◌, ℕ, ◌^◌, List, [], ◌∷◌, IfSome, Ok, vec_items, string_bytes, codes, Option}
 use Rattle.std.specs.List.{AllByRecursion}
 use Rattle.script.specs.Line.{words_of}
 use Rattle.numerals.specs.Number.{read, fitted}
@@ -35,6 +35,10 @@ keyword_of (Delete unit) = codes "delete"
 keyword_of (Controls unit block) = codes "controls"
 keyword_of Unused = codes "unused"
 
+-- the call has this keyword, the words ws after it say what it is called with, and the words left follow
+abbrev pub Called : List ℕ → Call → List (List ℕ) → List (List ℕ) → Type 0
+Called keyword k ws left = (keyword_of k ≡ keyword) × Arguments k ws left
+
 -- the words of a line say the call
 abbrev pub Says : Call → List (List ℕ) → Type 0
 Says k [] = ⊥
@@ -67,5 +71,4 @@ Faithful s = LaysOut s.layout (words_of (string_bytes s.layout_words)) × AllByR
 
 -- the same of a script that may not have begun
 abbrev pub SoFar : Option Script → Type 0
-SoFar None = Unit {0}
-SoFar (Some s) = Faithful s
+SoFar script = IfSome script Faithful

@@ -1,5 +1,7 @@
 -- How each keyword is spelled.
-use Rattle.std.specs.Prelude.{◌≡◌, ℕ, List, codes, Option, MatchOption, ◌≢◌}
+use Rattle.std.specs.Prelude.{◌≡◌, ℕ, List, codes, Option, Result, MatchOption, ◌≢◌}
+use Rattle.std.specs.Result.{result_ok}
+use Rattle.std.specs.Borrow.{Bor}
 use Rattle.script.specs.declared.keywords.Keyword.{Keyword}
 use Rattle.script.specs.declared.keywords.Keyword.TheVariants as keyword
 use Rattle.script.specs.declared.keywords.Method.{Method}
@@ -34,3 +36,7 @@ spelling keyword.Save = codes "save"
 -- the result is what the text spells, and none where nothing is spelled so
 abbrev pub Spelled : {K : Type 0} → (K → List ℕ) → List ℕ → Option K → Type 0
 Spelled spells text r = MatchOption r ((k : _) → spells k ≢ text) (λ k. spells k ≡ text)
+
+-- the word was read as what it spells, and refused where nothing is spelled so
+abbrev pub Reads : {K E : Type 0} → (K → List ℕ) → Bor (List ℕ) → Result K E → Type 0
+Reads spells word r = Spelled spells word.now (result_ok r)

@@ -1,5 +1,7 @@
 //! The words that say which call a line is.
-ghost use Rattle.script.specs.Spelling.{Spelled, method_spelling, spelling};
+ghost use Rattle.script.specs.Spelling.{Reads, method_spelling, spelling};
+
+use crate::fault::Fault;
 
 /// The first word of a line, or the word after a caller.
 #[derive(Clone, Copy)]
@@ -33,12 +35,14 @@ pub enum Method {
     ReadRow,
 }
 
-impl Keyword {
-    /// The keyword that is spelled so.
-    pub fn named(word: &str) -> Option<Keyword>
-        ensures { Spelled spelling word.now result }
-    {
-        Some(match word {
+/// The keyword that is spelled so.
+impl<'a> TryFrom<&'a str> for Keyword {
+    type Error = Fault<'a>;
+
+    ghost try_from_gives = { Reads spelling };
+
+    fn try_from(word: &'a str) -> Result<Keyword, Fault<'a>> {
+        Ok(match word {
             "fresh" => Keyword::Fresh,
             "load" => Keyword::Load,
             "admins" => Keyword::Admins,
@@ -51,17 +55,19 @@ impl Keyword {
             "unused" => Keyword::Unused,
             "describe" => Keyword::Describe,
             "save" => Keyword::Save,
-            _ => Keyword::Method(Method::named(word)?),
+            _ => Keyword::Method(Method::try_from(word)?),
         })
     }
 }
 
-impl Method {
-    /// The method that is spelled so.
-    pub fn named(word: &str) -> Option<Method>
-        ensures { Spelled method_spelling word.now result }
-    {
-        Some(match word {
+/// The method that is spelled so.
+impl<'a> TryFrom<&'a str> for Method {
+    type Error = Fault<'a>;
+
+    ghost try_from_gives = { Reads method_spelling };
+
+    fn try_from(word: &'a str) -> Result<Method, Fault<'a>> {
+        Ok(match word {
             "assign" => Method::Assign,
             "deassign" => Method::Deassign,
             "set-range" => Method::SetRange,
@@ -71,7 +77,7 @@ impl Method {
             "reactivate" => Method::Reactivate,
             "reset" => Method::Reset,
             "read-row" => Method::ReadRow,
-            _ => return None,
+            _ => return Err(Fault::UnknownWord(word)),
         })
     }
 }

@@ -24,21 +24,11 @@ fn numbers_are_decimal_or_hexadecimal(rt: HostRuntime) {
         ("0x1g", Err(NumberFault::NotANumber)),
     ];
     for (word, expected) in cases {
-        assert_eq!(rt; number(word), expected, "{}", word);
+        assert_eq!(rt; u64::parse(word), expected, "{}", word);
     }
-    assert_eq!(rt; number_u32("4294967295"), Ok(u32::MAX));
-    assert_eq!(rt; number_u32("0xffffffff"), Ok(u32::MAX));
-    assert_eq!(rt; number_u32("4294967296"), Err(NumberFault::TooLarge));
-}
-
-// A call by its first word and its numbers; 0 where it has none.
-fn told(call: Call) -> (&'static str, u32, u64) {
-    match call {
-        Call::Create { unit, blocks } => ("create", unit, blocks),
-        Call::Delete { unit } => ("delete", unit, 0),
-        Call::Controls { unit, block } => ("controls", unit, block),
-        Call::Unused => ("unused", 0, 0),
-    }
+    assert_eq!(rt; u32::parse("4294967295"), Ok(u32::MAX));
+    assert_eq!(rt; u32::parse("0xffffffff"), Ok(u32::MAX));
+    assert_eq!(rt; u32::parse("4294967296"), Err(NumberFault::TooLarge));
 }
 
 #[test]
@@ -49,24 +39,37 @@ fn a_script_is_read(rt: HostRuntime) -> Result<(), Fail> {
         .ok()
         .ok_or("the script was refused")?;
     assert_eq!(rt; script.layout_words.as_str(), "fresh scsi file 0x10");
-    assert_eq!(rt; script.layout.capacity, 16);
-    assert!(rt; matches!(script.layout.numbering, NumberingKind::Scsi));
-    assert!(rt; matches!(script.layout.vault, VaultKind::File));
+    let layout = Layout {
+        numbering: NumberingKind::Scsi,
+        vault: VaultKind::File,
+        capacity: 16,
+    };
+    assert_eq!(rt; script.layout, layout);
     let expected = [
-        (4, "create 1 1000", ("create", 1, 1000)),
-        (6, "delete 0x1", ("delete", 1, 0)),
+        (
+            4,
+            "create 1 1000",
+            Call::Create {
+                unit: 1,
+                blocks: 1000,
+            },
+        ),
+        (6, "delete 0x1", Call::Delete { unit: 1 }),
         (
             7,
             "controls 4294967295 18446744073709551615",
-            ("controls", u32::MAX, u64::MAX),
+            Call::Controls {
+                unit: u32::MAX,
+                block: u64::MAX,
+            },
         ),
-        (8, "unused", ("unused", 0, 0)),
+        (8, "unused", Call::Unused),
     ];
     assert_eq!(rt; script.lines.len(), expected.len());
     for (line, (number, words, call)) in script.lines.iter().zip(expected) {
         assert_eq!(rt; line.number, number);
         assert_eq!(rt; line.words.as_str(), words);
-        assert_eq!(rt; told(line.call), call);
+        assert_eq!(rt; line.call, call);
     }
     Ok(())
 }

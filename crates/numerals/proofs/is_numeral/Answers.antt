@@ -1,25 +1,11 @@
--- The digits that are left decide, from turn to turn.
-use Rattle.std.proofs.Common.{◌≡◌, ℕ, ◌+◌, ◌<◌, ◌&&◌, ltb, List, length, get_or, drop, arith, rules}
-use Rattle.std.specs.Char.{digit_value}
-use Rattle.std.proofs.lemmas.List.{at_drop_more, at_drop_all}
-use Rattle.numerals.specs.Number.{all_digits}
+use Rattle.std.proofs.Common.{rules}
+use Rattle.std.specs.Char.{is_digit}
+use Rattle.std.proofs.lemmas.Iterator.{YieldsList-from_slice}
+use Rattle.std.proofs.lemmas.Iterator.Search.{all_from_yields_List}
+use borrow.Author.Tests.{tests}
 use Rattle.numerals.proofs.is_numeral.Goals as goal
 
-one_more : (base : ℕ) (bs : List ℕ) (i : ℕ) → i < length bs →
-    all_digits base (drop i bs) ≡ (ltb (digit_value (get_or bs i 0)) base && all_digits base (drop (i + 1) bs))
-one_more base bs i h = at_drop_more (all_digits base) bs i 0 h
-
-pub returns-then-not-is_digit : goal.returns-then-not-is_digit
-returns-then-not-is_digit c =
-    let h = one_more c.args.radix c.args.text.now c.loop-byte.byte-index (omega arith) in
-    search rules
-
-pub loop-byte-preserved : goal.loop-byte-preserved
-loop-byte-preserved c =
-    let h = one_more c.args.radix c.args.text.now c.loop-byte.byte-index (omega arith) in
-    search rules
-
-pub returns : goal.returns
-returns c =
-    let h = at_drop_all (all_digits c.args.radix) c.args.text.now c.loop-byte.byte-index (omega arith) in
+pub returns-then-not-is_empty : goal.returns-then-not-is_empty
+returns-then-not-is_empty c =
+    let all = all_from_yields_List (λ b. is_digit b c.args.radix) _ _ c.all.result c.all.ensures.ran (YieldsList-from_slice c.args.text.now cc) (λ x b q k. search (rules, tests)) in
     search rules
