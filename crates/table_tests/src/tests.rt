@@ -1,10 +1,8 @@
-use rules::cause::*;
-use rules::numbering::*;
-use rules::row::*;
-use rules::unit::*;
+use rules::cause::Cause;
+use rules::numbering::{Nvme, Scsi};
 use std::process::Abort;
-use table::calls::*;
-use table::state::*;
+use table::calls::Calls;
+use table::state::{Table, fresh_check};
 use vault::Vault;
 use vault::chip::KeyChip;
 use vault::file::KeyFile;
@@ -13,26 +11,23 @@ const LARGEST_UNIT: u32 = 0xFFFF_FFFE;
 
 const LARGEST_SIZE: u64 = 0x1_0000_0000_0000;
 
-// 0 where the call is accepted.
+// 0 where the call is accepted, so that a table of cases is numbers alone.
 fn number<T: Drop>(outcome: Result<T, Cause>) -> u32 {
-    match outcome {
-        Ok(_) => 0,
-        Err(cause) => cause.number(),
-    }
+    outcome.map_or_else(Cause::number, |_| 0)
 }
 
 // Row and key of a block, or the number of the refusal twice.
 fn controls<C: Calls>(table: &C, unit: u32, block: u64) -> (u32, u32) {
-    match table.controls(unit, block) {
-        Ok(control) => (control.row, control.serial),
-        Err(cause) => (cause.number(), cause.number()),
-    }
+    table.controls(unit, block).map_or_else(
+        |cause| (cause.number(), cause.number()),
+        |control| (control.row, control.serial),
+    )
 }
 
 #[test]
 fn create_refuses_in_order(rt: HostRuntime) {
     let mut file = KeyFile::new(2);
-    let mut table = Table::fresh(&mut file, &Nvme {});
+    let mut table = Table::<_, Nvme>::fresh(&mut file);
     for (unit, blocks, expected) in [
         (0, 0, 5),
         (u32::MAX, 1, 5),
@@ -55,7 +50,7 @@ fn create_refuses_in_order(rt: HostRuntime) {
 
 // Over an empty vault of capacity 2.
 fn deletions<V: Vault>(rt: &impl Abort, vault: &mut V) {
-    let mut table = Table::fresh(vault, &Nvme {});
+    let mut table = Table::<_, Nvme>::fresh(vault);
     assert_eq!(rt;
         (number(table.create(7, 10)), number(table.create(3, 10))),
         (0, 0)
@@ -90,7 +85,7 @@ fn delete_drops_the_key(rt: HostRuntime) {
 #[test]
 fn scsi_unit_0_is_a_unit(rt: HostRuntime) {
     let mut file = KeyFile::new(4);
-    let mut table = Table::fresh(&mut file, &Scsi {});
+    let mut table = Table::<_, Scsi>::fresh(&mut file);
     assert_eq!(rt;
         (controls(&table, 0, 0), number(table.delete(0))),
         ((5, 5), 5)
@@ -111,7 +106,7 @@ fn scsi_unit_0_is_a_unit(rt: HostRuntime) {
 #[test]
 fn sixteen_units_and_no_seventeenth(rt: HostRuntime) {
     let mut file = KeyFile::new(64);
-    let mut table = Table::fresh(&mut file, &Nvme {});
+    let mut table = Table::<_, Nvme>::fresh(&mut file);
     for unit in 1..17 {
         assert_eq!(rt; number(table.create(unit, 1)), 0);
     }
@@ -145,7 +140,7 @@ fn a_closed_table_answers_29_first(rt: HostRuntime) {
         ),
         (0, true, 29)
     );
-    let mut table = Table::fresh(&mut used, &Nvme {});
+    let mut table = Table::<_, Nvme>::fresh(&mut used);
     assert_eq!(rt;
         (
             number(table.create(0, 0)),

@@ -4,10 +4,10 @@
 #[cfg(test)]
 mod tests {
     use std::process::Abort;
-    use vault::Vault;
     use vault::chip::KeyChip;
     use vault::file::KeyFile;
     use vault::refusal::VaultRefusal;
+    use vault::{KeySet, Vault};
 
     const LARGEST: u32 = 4_294_967_294;
 
@@ -18,12 +18,9 @@ mod tests {
         Drop(u32),
     }
 
-    // 0 where the request is accepted.
+    // 0 where the request is accepted, so that a table of cases is numbers alone.
     fn number(outcome: Result<(), VaultRefusal>) -> u32 {
-        match outcome {
-            Ok(()) => 0,
-            Err(refusal) => refusal.number(),
-        }
+        outcome.map_or_else(VaultRefusal::number, |()| 0)
     }
 
     fn ask<V: Vault>(vault: &mut V, request: Request) -> u32 {
