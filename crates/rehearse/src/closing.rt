@@ -1,11 +1,11 @@
-use crate::answer::*;
-use crate::shown_row::*;
-use rules::row::*;
-use rules::unit::*;
+use crate::answer::shown;
+use crate::shown_row::ShownRow;
+use rules::ask::Told;
+use rules::row::{Kind, Row};
+use rules::unit::LogicalUnit;
 use std::alloc::{AllocError, Global};
 use std::fmt;
-use steps::Answer;
-use table::calls::*;
+use table::calls::Calls;
 
 /// The keys of the table: the units' in rising order, then the range rows'.
 pub fn keys<C: Calls>(heap: Global, table: &C) -> Result<Vec<u32>, AllocError> {
@@ -14,13 +14,7 @@ pub fn keys<C: Calls>(heap: Global, table: &C) -> Result<Vec<u32>, AllocError> {
         all.push(unit.serial)?;
     }
     for row in table.rows() {
-        if let Kind::RangeRow {
-            unit: _,
-            start: _,
-            length: _,
-            serial,
-        } = row.kind
-        {
+        if let Kind::RangeRow { serial, .. } = row.kind {
             all.push(serial)?;
         }
     }
@@ -61,25 +55,20 @@ pub fn report<C: Calls>(rt: &HostRuntime, table: &C, gone: &Vec<u32>) -> anyhow:
     }
     let held = Serials(held.as_slice());
     let gone = Serials(gone.as_slice());
-    let unused = Told(unused_answer(table));
+    let unused = shown(table.unused().map(Told::Unused));
     println!(rt; "  keys held: {held}\n  keys eradicated, in order: {gone}\n  unused: {unused}")?;
     Ok(())
-}
-
-fn unused_answer<C: Calls>(table: &C) -> Answer {
-    match table.unused() {
-        Ok(count) => Answer::Unused(count),
-        Err(cause) => Answer::Refused(cause),
-    }
 }
 
 fn units(rt: &HostRuntime, units: &[LogicalUnit]) -> anyhow::Result<()> {
     let count = units.len();
     println!(rt; "  units: {count}")?;
     for unit in units {
-        let number = unit.number;
-        let blocks = unit.blocks;
-        let serial = unit.serial;
+        let LogicalUnit {
+            number,
+            blocks,
+            serial,
+        } = *unit;
         println!(rt; "    unit {number}: {blocks} blocks, key {serial}")?;
     }
     Ok(())
@@ -87,17 +76,15 @@ fn units(rt: &HostRuntime, units: &[LogicalUnit]) -> anyhow::Result<()> {
 
 /// The rows that are not free, each as a row is read.
 fn rows(rt: &HostRuntime, rows: &[Row]) -> anyhow::Result<()> {
-    let mut free = 0usize;
     println!(rt; "  rows:")?;
-    for (number, row) in rows.iter().enumerate() {
-        match row.kind {
-            Kind::Free => free = free.saturating_add(1),
-            _ => {
-                let shown = ShownRow(*row);
-                println!(rt; "    row {number}: {shown}")?;
-            }
-        }
+    for (number, row) in rows.iter().enumerate().filter(|(_, row)| !is_free(row)) {
+        println!(rt; "    row {number}: {}", ShownRow(*row))?;
     }
+    let free = rows.iter().filter(|row| is_free(row)).count();
     println!(rt; "    free: {free}")?;
     Ok(())
+}
+
+fn is_free(row: &Row) -> bool {
+    matches!(row.kind, Kind::Free)
 }

@@ -1,11 +1,10 @@
-use crate::answer::*;
-use crate::closing::*;
-use rules::cause::*;
-use rules::numbering::*;
+use crate::answer::shown;
+use crate::closing::{keys, report};
+use rules::numbering::{Numbering, Nvme, Scsi};
 use script::{Line, NumberingKind, Script, VaultKind};
 use steps::make;
-use table::calls::*;
-use table::state::*;
+use table::calls::Calls;
+use table::state::{Table, fresh_check};
 use vault::Vault;
 use vault::chip::KeyChip;
 use vault::file::KeyFile;
@@ -52,13 +51,7 @@ fn rehearse<'v, V: Vault, N: Numbering>(
     let words = script.layout_words.as_str();
     match check {
         Ok(()) => println!(rt; "{words} => open")?,
-        Err(cause) => {
-            let refusal = Refusal {
-                cause,
-                asked: Asked::Command,
-            };
-            println!(rt; "{words} => closed, {refusal}")?
-        }
+        Err(cause) => println!(rt; "{words} => closed, {}", shown(Err(cause)))?,
     }
     let mut gone = Vec::new(rt.alloc());
     for line in script.lines.iter() {
@@ -75,9 +68,9 @@ fn call<C: Calls>(
     gone: &mut Vec<u32>,
 ) -> anyhow::Result<()> {
     let before = keys(rt.alloc(), table)?;
-    let answer = Told(make(table, line.call));
+    let reply = shown(make(table, line.call));
     let words = line.words.as_str();
-    println!(rt; "{words} => {answer}")?;
+    println!(rt; "{words} => {reply}")?;
     for serial in before.iter() {
         if !table.holds(*serial) {
             gone.push(*serial)?;

@@ -1,5 +1,6 @@
-use rules::row::*;
+use rules::row::{Flags, Kind, Row};
 use std::fmt;
+use steps::shown::Shown;
 
 /// A row as it is read: unit, start, length, key, flags, kind and standing.
 #[derive(Clone, Copy)]
@@ -25,9 +26,9 @@ impl fmt::Display for ShownRow {
                 "unit {unit}, start {start}, length {length}, key {serial}"
             )?,
         }
-        let flags = ShownFlags(flags);
+        let flags = FlagsOrNone(flags);
         let kind = kind_name(kind);
-        let standing = standing_name(standing);
+        let standing = Shown(standing);
         write!(f, ", flags{flags}, {kind}, {standing}")
     }
 }
@@ -36,44 +37,29 @@ fn kind_name(kind: Kind) -> &'static str {
     match kind {
         Kind::Free => "free row",
         Kind::Global => "global row",
-        Kind::UnitRow { unit: _ } => "unit row",
-        Kind::RangeRow {
-            unit: _,
-            start: _,
-            length: _,
-            serial: _,
-        } => "range row",
-    }
-}
-
-fn standing_name(standing: Standing) -> &'static str {
-    match standing {
-        Standing::Shared => "shared",
-        Standing::SingleUser => "single-user",
+        Kind::UnitRow { .. } => "unit row",
+        Kind::RangeRow { .. } => "range row",
     }
 }
 
 /// The flags that are true, each after a space, or ` none`.
 #[derive(Clone, Copy)]
-struct ShownFlags(Flags);
+struct FlagsOrNone(Flags);
 
-impl fmt::Display for ShownFlags {
+const NO_FLAGS: Flags = Flags {
+    read_lock_enabled: false,
+    write_lock_enabled: false,
+    read_locked: false,
+    write_locked: false,
+    lock_on_reset: false,
+};
+
+impl fmt::Display for FlagsOrNone {
     fn fmt<W: fmt::Write>(&self, f: &mut fmt::Formatter<W>) -> fmt::Result {
-        let flags = self.0;
-        let named = [
-            (flags.read_lock_enabled, " read-enabled"),
-            (flags.write_lock_enabled, " write-enabled"),
-            (flags.read_locked, " read-locked"),
-            (flags.write_locked, " write-locked"),
-            (flags.lock_on_reset, " lock-on-reset"),
-        ];
-        let mut any = false;
-        for (is_true, name) in named {
-            if is_true {
-                any = true;
-                write!(f, "{name}")?;
-            }
+        if self.0 == NO_FLAGS {
+            f.write_str(" none")
+        } else {
+            Shown(self.0).fmt(f)
         }
-        if any { Ok(()) } else { write!(f, " none") }
     }
 }

@@ -4,12 +4,13 @@
 
 mod show;
 
-use cases::run::*;
-use cases::sequence::*;
-use rules::numbering::*;
-use show::*;
-use table::calls::*;
-use table::state::*;
+use cases::run::{is_same, make};
+use cases::sequence::{Shown, Step, scsi_sequence, sequence};
+use rules::numbering::{Numbering, Nvme, Scsi};
+use show::Words;
+use steps::shown::ShownReply;
+use table::calls::Calls;
+use table::state::Table;
 use vault::Vault;
 use vault::chip::KeyChip;
 use vault::file::KeyFile;
@@ -98,8 +99,12 @@ fn show_step<F: Calls, C: Calls>(
             }
         }
     };
-    let ask = words_of(step.ask);
-    let reply = Told(step.reply);
+    let ask = Words(step.ask);
+    // The sequence names a refusal by its number alone.
+    let reply = ShownReply {
+        reply: step.reply,
+        asked: None,
+    };
     println!(rt; "{ask} => {reply}  ({how})")?;
     Ok(())
 }

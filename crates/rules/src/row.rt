@@ -30,7 +30,7 @@ impl Flags {
 }
 
 /// What a row is for.
-#[derive(Clone, Copy, PartialEq, Eq)]
+#[derive(Clone, Copy)]
 pub enum Kind {
     Free,
     /// Row 0: every block that no other row controls.
@@ -90,7 +90,7 @@ impl Row {
     pub fn is_free(&self, standing: Standing) -> bool
         ensures { result ≡ free_of standing self.now }
     {
-        self.kind == Kind::Free && self.standing == standing
+        matches!(self.kind, Kind::Free) && self.standing == standing
     }
 }
 

@@ -1,9 +1,11 @@
-//! One call of a script on a table: what it replies, and what it leaves.
+//! One call of a script on a table: what it replies, and what it leaves; and how replies are printed.
 #![tactic(auto)]
 
 ghost use Rattle.std.specs.Prelude.{◌≡◌};
 ghost use Rattle.rules.specs.Asks.{reply_to, left_by};
 ghost use Rattle.steps.specs.Step.{asked};
+
+pub mod shown;
 
 use rules::ask::{Reply, Told};
 use rules::call::Accepted;
