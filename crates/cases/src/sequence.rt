@@ -28,13 +28,7 @@ pub struct Step {
 
 const ADMINS: u32 = 0;
 
-const BLANK: Flags = Flags {
-    read_lock_enabled: false,
-    write_lock_enabled: false,
-    read_locked: false,
-    write_locked: false,
-    lock_on_reset: true,
-};
+const BLANK: Flags = Flags::BLANK;
 
 const READ_LOCKED: Flags = Flags {
     read_lock_enabled: true,

@@ -12,42 +12,32 @@ use vault::file::KeyFile;
 /// Rehearses the script over a vault of the kind that it names.
 pub fn perform(rt: &HostRuntime, script: &Script) -> anyhow::Result<()> {
     match script.layout.numbering {
-        NumberingKind::Nvme => over_vault(rt, script, &Nvme {}),
-        NumberingKind::Scsi => over_vault(rt, script, &Scsi {}),
+        NumberingKind::Nvme => over_vault::<Nvme>(rt, script),
+        NumberingKind::Scsi => over_vault::<Scsi>(rt, script),
     }
 }
 
-fn over_vault<N: Numbering>(
-    rt: &HostRuntime,
-    script: &Script,
-    numbering: &N,
-) -> anyhow::Result<()> {
+fn over_vault<N: Numbering>(rt: &HostRuntime, script: &Script) -> anyhow::Result<()> {
     let capacity = script.layout.capacity;
     match script.layout.vault {
-        VaultKind::File => rehearse(rt, script, &mut KeyFile::new(capacity), numbering),
+        VaultKind::File => rehearse::<_, N>(rt, script, &mut KeyFile::new(capacity)),
         VaultKind::Chip => {
             // More than 64 registers are unfit, however many there are, so 65 stand for any such number.
             let mut registers = [0; 65];
             let count = capacity.min(65) as usize;
-            rehearse(
-                rt,
-                script,
-                &mut KeyChip::new(&mut registers[0..count]),
-                numbering,
-            )
+            rehearse::<_, N>(rt, script, &mut KeyChip::new(&mut registers[0..count]))
         }
     }
 }
 
 /// Lays the table out, makes the calls in their order, and prints what took place.
-fn rehearse<'v, V: Vault, N: Numbering>(
+fn rehearse<V: Vault, N: Numbering>(
     rt: &HostRuntime,
     script: &Script,
-    vault: &'v mut V,
-    numbering: &'v N,
+    vault: &mut V,
 ) -> anyhow::Result<()> {
     let check = fresh_check(vault);
-    let mut table = Table::fresh(vault, numbering);
+    let mut table = Table::<_, N>::fresh(vault);
     let words = script.layout_words.as_str();
     match check {
         Ok(()) => println!(rt; "{words} => open")?,

@@ -11,12 +11,11 @@ use show::Words;
 use steps::shown::ShownReply;
 use table::calls::Calls;
 use table::state::Table;
-use vault::Vault;
 use vault::chip::KeyChip;
 use vault::file::KeyFile;
 
 /// How many steps were shown in each way.
-#[derive(Clone, Copy)]
+#[derive(Clone, Copy, Default)]
 struct Tally {
     proved: u32,
     run: u32,
@@ -24,15 +23,11 @@ struct Tally {
 }
 
 fn main(rt: HostRuntime) -> anyhow::Result<()> {
-    let mut tally = Tally {
-        proved: 0,
-        run: 0,
-        differ: 0,
-    };
+    let mut tally = Tally::default();
     println!(rt; "NVMe, capacity 15, over a key file and over a key chip")?;
-    go_through(&rt, &Nvme {}, &sequence(), &mut tally)?;
+    go_through::<Nvme>(&rt, &sequence(), &mut tally)?;
     println!(rt; "SCSI, capacity 15, over a key file and over a key chip")?;
-    go_through(&rt, &Scsi {}, &scsi_sequence(), &mut tally)?;
+    go_through::<Scsi>(&rt, &scsi_sequence(), &mut tally)?;
     let Tally {
         proved,
         run,
@@ -42,34 +37,19 @@ fn main(rt: HostRuntime) -> anyhow::Result<()> {
     Ok(())
 }
 
-/// Goes through the stages, over an empty key file and an empty key chip.
+/// Lays a blank table out over an empty key file, another over an empty key chip, and goes through the stages on both.
 fn go_through<N: Numbering>(
     rt: &HostRuntime,
-    numbering: &N,
     stages: &[[Step; 8]],
     tally: &mut Tally,
 ) -> anyhow::Result<()> {
+    let mut file = KeyFile::new(15);
     let mut registers = [0; 15];
     let mut chip = KeyChip::new(&mut registers);
-    let mut file = KeyFile::new(15);
-    go_over(rt, &mut file, &mut chip, numbering, stages, tally)
-}
-
-/// Lays a blank table out over each vault, and goes through the stages on both.
-fn go_over<'v, F: Vault, C: Vault, N: Numbering>(
-    rt: &HostRuntime,
-    file: &'v mut F,
-    chip: &'v mut C,
-    numbering: &'v N,
-    stages: &[[Step; 8]],
-    tally: &mut Tally,
-) -> anyhow::Result<()> {
-    let mut on_file = Table::fresh(file, numbering);
-    let mut on_chip = Table::fresh(chip, numbering);
-    for stage in stages {
-        for step in stage {
-            show_step(rt, &mut on_file, &mut on_chip, *step, tally)?;
-        }
+    let mut on_file = Table::<_, N>::fresh(&mut file);
+    let mut on_chip = Table::<_, N>::fresh(&mut chip);
+    for step in stages.iter().flatten() {
+        show_step(rt, &mut on_file, &mut on_chip, *step, tally)?;
     }
     Ok(())
 }
