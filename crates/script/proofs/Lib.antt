@@ -1,1 +1,1 @@
-mod Cuts
+mod Rejoined

@@ -66,6 +66,7 @@ LaysOut l (w ∷ ws) = (w ≡ codes "fresh") × Fresh l ws []
 abbrev pub LineSays : Line → Type 0
 LineSays l = Says l.call (words_of (string_bytes l.words))
 
+-- (by recursion on the lines, since the search does not carry `All` over a push)
 abbrev pub Faithful : Script → Type 0
 Faithful s = LaysOut s.layout (words_of (string_bytes s.layout_words)) × AllByRecursion LineSays (vec_items s.lines)
 
