@@ -19,6 +19,7 @@ pub enum Shown {
 }
 
 /// One step: what is asked, what must come back, and how that is shown.
+// Stages are arrays, as a library here has no heap, and all of eight steps, so that they stand in one array.
 #[derive(Clone, Copy)]
 pub struct Step {
     pub ask: Ask,

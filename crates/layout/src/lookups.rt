@@ -34,6 +34,7 @@ impl Layout {
             Kind::RangeRow { serial, .. } => serial,
             _ => unit.serial,
         };
+        // A row's number is below 17: a conversion that could fail would have a case that never comes.
         Control {
             row: row as u32,
             serial,

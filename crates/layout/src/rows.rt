@@ -7,6 +7,7 @@ use std::marker::Model;
 /// The seventeen rows of the Locking table. Row 0 is the Global Range row.
 #[derive(Drop)]
 pub struct Rows {
+    // The drive has just so many.
     list: [Row; 17],
 }
 

@@ -27,18 +27,9 @@ impl fmt::Display for ShownRow {
             )?,
         }
         let flags = FlagsOrNone(flags);
-        let kind = kind_name(kind);
+        let kind = Shown(kind);
         let standing = Shown(standing);
         write!(f, ", flags{flags}, {kind}, {standing}")
-    }
-}
-
-fn kind_name(kind: Kind) -> &'static str {
-    match kind {
-        Kind::Free => "free row",
-        Kind::Global => "global row",
-        Kind::UnitRow { .. } => "unit row",
-        Kind::RangeRow { .. } => "range row",
     }
 }
 

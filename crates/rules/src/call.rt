@@ -2,6 +2,8 @@ use crate::cause::Cause;
 use crate::row::{Flags, Standing};
 
 /// A call that can change a drive, with all that it takes. A method comes in a session of its caller: 0 is Admins, n is User n.
+// Callers, rows, policies and selections are plain numbers, since a host may send any: which of them name something is for the
+// checks to say.
 #[derive(Clone, Copy)]
 pub enum Call {
     Assign {
@@ -61,7 +63,7 @@ pub enum Call {
 #[derive(Clone, Copy, PartialEq, Eq)]
 pub enum Accepted {
     Success,
-    /// The row's number, and whether it is a unit row.
+    /// The row's number, and whether it is a unit row: the host is told both of every row.
     Assigned((u32, bool)),
     /// How many rows are put in Single User Mode.
     SingleUserRows(u32),

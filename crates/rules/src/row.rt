@@ -63,7 +63,7 @@ pub struct Row {
     pub flags: Flags,
 }
 
-/// A row as the sheet has it: the unit or the mark, the serial or 0, and so on; and its standing.
+/// A row as the sheet has it, field by field: the unit or the mark, the serial or 0, and so on; and its standing.
 #[derive(Clone, Copy, PartialEq, Eq)]
 pub struct RowFields {
     pub unit: u32,

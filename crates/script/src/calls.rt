@@ -56,7 +56,7 @@ pub struct Layout {
     pub capacity: u32,
 }
 
-/// A call on the table that is laid out.
+/// A call on the table that is laid out: just those that there is code for, so that whoever makes one can answer each.
 #[derive(Clone, Copy, Debug, PartialEq, Eq)]
 pub enum Call {
     Create { unit: u32, blocks: u64 },

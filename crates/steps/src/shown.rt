@@ -2,7 +2,7 @@
 use rules::ask::{Reply, Told};
 use rules::call::Accepted;
 use rules::cause::{Asked, Cause, Status};
-use rules::row::{Flags, RowFields, Standing};
+use rules::row::{Flags, Kind, RowFields, Standing};
 use rules::unit::Control;
 use std::fmt;
 
@@ -31,6 +31,17 @@ impl fmt::Display for Shown<Standing> {
         f.write_str(match self.0 {
             Standing::Shared => "shared",
             Standing::SingleUser => "single-user",
+        })
+    }
+}
+
+impl fmt::Display for Shown<Kind> {
+    fn fmt<W: fmt::Write>(&self, f: &mut fmt::Formatter<W>) -> fmt::Result {
+        f.write_str(match self.0 {
+            Kind::Free => "free row",
+            Kind::Global => "global row",
+            Kind::UnitRow { .. } => "unit row",
+            Kind::RangeRow { .. } => "range row",
         })
     }
 }

@@ -88,6 +88,7 @@ impl<'a> KeySet for KeyChip<'a> {
 
     ghost lawful = { λ v. v.ordered };
 
+    // There are at most 64 registers: a conversion that could fail would have a case that never comes.
     fn capacity(&self) -> u32 {
         self.used as u32
     }

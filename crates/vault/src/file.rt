@@ -53,6 +53,7 @@ impl KeySet for KeyFile {
         self.capacity
     }
 
+    // At most 64: a conversion that could fail would have a case that never comes.
     fn count(&self) -> u32 {
         self.serials.len() as u32
     }

@@ -18,39 +18,36 @@ mod tests {
         Drop(u32),
     }
 
-    // 0 where the request is accepted, so that a table of cases is numbers alone.
-    fn number(outcome: Result<(), VaultRefusal>) -> u32 {
-        outcome.map_or_else(VaultRefusal::number, |()| 0)
-    }
-
-    fn ask<V: Vault>(vault: &mut V, request: Request) -> u32 {
-        number(match request {
+    // A refusal by its number.
+    fn ask<V: Vault>(vault: &mut V, request: Request) -> Result<(), u32> {
+        match request {
             Request::Put(serial) => vault.put(serial),
             Request::Swap(old, new) => vault.swap(old, new),
             Request::Drop(serial) => vault.drop_key(serial),
-        })
+        }
+        .map_err(VaultRefusal::number)
     }
 
     // Capacity 2, empty at first. Where several refusals apply, the first in order is answered.
-    const ORDER: [(Request, u32); 18] = [
-        (Request::Swap(5, 0), 44),
-        (Request::Drop(0), 44),
-        (Request::Put(0), 41),
-        (Request::Put(5), 0),
-        (Request::Put(5), 42),
-        (Request::Put(LARGEST), 0),
-        (Request::Put(0), 41),
-        (Request::Put(5), 42),
-        (Request::Put(7), 43),
-        (Request::Swap(7, 5), 44),
-        (Request::Swap(5, 0), 41),
-        (Request::Swap(5, 5), 42),
-        (Request::Swap(5, LARGEST), 42),
-        (Request::Swap(5, 9), 0),
-        (Request::Drop(5), 44),
-        (Request::Drop(LARGEST), 0),
-        (Request::Drop(LARGEST), 44),
-        (Request::Put(5), 0),
+    const ORDER: [(Request, Result<(), u32>); 18] = [
+        (Request::Swap(5, 0), Err(44)),
+        (Request::Drop(0), Err(44)),
+        (Request::Put(0), Err(41)),
+        (Request::Put(5), Ok(())),
+        (Request::Put(5), Err(42)),
+        (Request::Put(LARGEST), Ok(())),
+        (Request::Put(0), Err(41)),
+        (Request::Put(5), Err(42)),
+        (Request::Put(7), Err(43)),
+        (Request::Swap(7, 5), Err(44)),
+        (Request::Swap(5, 0), Err(41)),
+        (Request::Swap(5, 5), Err(42)),
+        (Request::Swap(5, LARGEST), Err(42)),
+        (Request::Swap(5, 9), Ok(())),
+        (Request::Drop(5), Err(44)),
+        (Request::Drop(LARGEST), Ok(())),
+        (Request::Drop(LARGEST), Err(44)),
+        (Request::Put(5), Ok(())),
     ];
 
     fn asked_in_order<V: Vault>(rt: &impl Abort, vault: &mut V) {
@@ -85,7 +82,7 @@ mod tests {
                 ask(&mut chip, Request::Swap(8, 6)),
             ]
         };
-        assert_eq!(rt; outcomes, [0, 0, 0, 0]);
+        assert_eq!(rt; outcomes, [Ok(()); 4]);
         assert_eq!(rt; registers, [4, 7, 0, 6]);
     }
 
@@ -97,41 +94,50 @@ mod tests {
         );
         assert_eq!(rt;
             (ask(vault, Request::Put(0)), ask(vault, Request::Put(3))),
-            (41, 43)
+            (Err(41), Err(43))
         );
         assert_eq!(rt;
             (
                 ask(vault, Request::Swap(3, 4)),
                 ask(vault, Request::Drop(3)),
             ),
-            (44, 44)
+            (Err(44), Err(44))
         );
     }
 
     #[test]
     fn unfit_capacities(rt: HostRuntime) {
-        for (capacity, expected) in [(0, 29), (1, 0), (64, 0), (65, 29), (u32::MAX, 29)] {
-            assert_eq!(rt; number(KeyFile::check(capacity)), expected);
+        for (capacity, expected) in [
+            (0, Err(29)),
+            (1, Ok(())),
+            (64, Ok(())),
+            (65, Err(29)),
+            (u32::MAX, Err(29)),
+        ] {
+            assert_eq!(rt;
+                KeyFile::check(capacity).map_err(VaultRefusal::number),
+                expected
+            );
         }
         assert_eq!(rt; KeyFile::new(64).capacity(), 64);
         unfit(&rt, &mut KeyFile::new(0));
         unfit(&rt, &mut KeyFile::new(65));
     }
 
+    fn check(registers: &[u32]) -> Result<(), u32> {
+        KeyChip::check(registers).map_err(VaultRefusal::number)
+    }
+
     #[test]
     fn unfit_registers_stay_as_they_are(rt: HostRuntime) {
         let mut twice = [3, 0, 3];
-        assert_eq!(rt; number(KeyChip::check(&twice)), 29);
+        assert_eq!(rt; check(&twice), Err(29));
         unfit(&rt, &mut KeyChip::new(&mut twice));
         assert_eq!(rt; twice, [3, 0, 3]);
         let mut many = [0; 65];
         assert_eq!(rt;
-            (
-                number(KeyChip::check(&many)),
-                number(KeyChip::check(&many[0..64])),
-                number(KeyChip::check(&many[0..0])),
-            ),
-            (29, 0, 29)
+            (check(&many), check(&many[0..64]), check(&many[0..0]),),
+            (Err(29), Ok(()), Err(29))
         );
         unfit(&rt, &mut KeyChip::new(&mut many));
         assert_eq!(rt; many, [0; 65]);
