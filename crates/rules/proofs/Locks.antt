@@ -1,6 +1,6 @@
 -- What one call can open.
 use Rattle.std.proofs.Common.{◌≡◌, ℕ, ◌<◌, ◌≤◌, Bool, true, false, cond, not, ◌&&◌, ◌||◌, eqb, ltb, ◌≢◌, ◌⊎◌, List, [], ◌∷◌, map, length, set, Some, None, Ok, Option, unwrap_or, sym, refl, ap, ◌∙◌, subst, inl, inr, arith}
-use Rattle.std.proofs.lemmas.List.{length-map, get_or_past}
+use Rattle.std.proofs.lemmas.List.{get_or-map, length-map, get_or_past}
 use Rattle.std.proofs.lemmas.Bool.Decides.{nat_tests}
 use Rattle.std.proofs.lemmas.Bool.{cases_Bool, cases_eq, cases_lt, both_ways, and_parts, eqb-true, eq-eqb, ne_eqb, true≢false, not-false, or_parts, cond-true}
 use Rattle.packed.specs.Rising.{lookup}
@@ -41,7 +41,7 @@ use Rattle.rules.proofs.Lookups.{lookup-insert, lookup-remove, has-remove-other,
 use Rattle.rules.proofs.Renewals.{range-parts, rekeyed_row}
 use Rattle.rules.proofs.RowsKept.{within, in_table, not-row-0, none-at, no_other, any_none, unit-row-there}
 use Rattle.rules.proofs.Searches.{found-is, nowhere, written, unwritten, set-alike, lowest-as, control-as, first-same}
-use Rattle.rules.proofs.Selections.{map-alike, row-map}
+use Rattle.rules.proofs.Selections.{map-alike}
 use Rattle.rules.proofs.Sounds.{take-free}
 use Rattle.rules.proofs.Steps.{branch-passed, left-kept}
 
@@ -139,7 +139,7 @@ module _ (access : Access) (n block : ℕ) where
     where
       kept : (i : ℕ) → locked_for access (row i d.rows).flags ≡ true → locked_for access (row i (map (λ r. with_flags (relocked r.flags) r) d.rows)).flags ≡ true
       kept i e = elim (cases_lt i (length d.rows)) [
-        | inl l ↦ ap (λ (y : Row). locked_for access y.flags) (row-map (λ r. with_flags (relocked r.flags) r) d.rows i l) ∙ relock-keeps access (row i d.rows).flags e
+        | inl l ↦ ap (λ (y : Row). locked_for access y.flags) (get_or-map (λ r. with_flags (relocked r.flags) r) d.rows i no_row no_row l) ∙ relock-keeps access (row i d.rows).flags e
         | inr g ↦ absurd (both_ways (locked_for access (row i d.rows).flags) (ap (λ (y : Row). locked_for access y.flags) (get_or_past d.rows i no_row g) ∙ none-locked access) e)
       ]
 

@@ -18,9 +18,6 @@ pub cases-option : {A : Type 0} (o : Option A) → ((x : A) × (o ≡ Some x)) �
 cases-option None = inr refl
 cases-option (Some x) = inl (x, refl)
 
-pub none-some : {A : Type 0} {X : Type 0} (o : Option A) (x : A) → o ≡ None → o ≡ Some x → X
-none-some o x p q = absurd cc
-
 -- the same places pass in both lists
 pub first-same : {A : Type 0} (test : A → Bool) (d : A) (xs ys : List A) → length xs ≡ length ys
     → ((i : ℕ) → test (get_or xs i d) ≡ test (get_or ys i d)) → first test xs ≡ first test ys

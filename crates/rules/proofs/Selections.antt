@@ -29,11 +29,6 @@ map-alike f make same [] i = refl
 map-alike f make same (r ∷ rs) zero = same r
 map-alike f make same (r ∷ rs) (suc i) = map-alike f make same rs i
 
-pub row-map : (make : Row → Row) (rows : List Row) (i : ℕ) → i < length rows → row i (map make rows) ≡ make (row i rows)
-row-map make [] i l = absurd (let b : ⊥ = omega arith in b)
-row-map make (r ∷ rs) zero l = refl
-row-map make (r ∷ rs) (suc i) l = row-map make rs i (omega arith)
-
 -- a selection that is not 0 has a bit below its length
 pub some-bit : (k selection : ℕ) → selection < 2 ^ k → selection ≢ 0 → (r : ℕ) × (r < k) × (selected selection r ≡ true)
 some-bit zero n l z = absurd (z (omega arith))

@@ -1,6 +1,6 @@
 -- Every call leaves a drive that a sheet can describe, and the vault refuses none of its requests.
 use Rattle.std.proofs.Common.{◌≡◌, ℕ, suc, ◌+◌, ◌^◌, ◌<◌, Bool, true, false, cond, not, ◌&&◌, ◌||◌, eqb, ltb, leb, ◌≢◌, List, [], ◌∷◌, ◌++◌, map, length, get_or, set, Some, None, Option, unwrap_or, sym, refl, ap, ◌∙◌, inl, inr, arith}
-use Rattle.std.proofs.lemmas.List.{length-set, length-map, set-get_or, get_or_past}
+use Rattle.std.proofs.lemmas.List.{get_or-map, length-set, length-map, set-get_or, get_or_past}
 use Rattle.std.proofs.lemmas.Bool.Decides.{nat_tests}
 use Rattle.std.proofs.lemmas.Bool.{cases_Bool, cases_lt, both_ways, and_parts, and_from, ltb-true, ltb-false, leb-false, lt-ltb, le-leb, eqb-true, eqb-false, not-false}
 use Rattle.packed.specs.Rising.{lookup}
@@ -32,7 +32,7 @@ use Rattle.rules.proofs.Lookups.{lookup-insert, lookup-remove, has-remove-other,
 use Rattle.rules.proofs.Renewals.{unit-key, renewed-sound, valid-of-row, valid-of-unit}
 use Rattle.rules.proofs.RowsKept.{any_same, any_at, within, in_table, none-at, kind-free, over-apart, fits-exists, fits_under, fits-key, rows-unit-row, rows-range, rows-free, rows_alike, rows-units}
 use Rattle.rules.proofs.Searches.{missed, not_there, at-free, set-alike, unwritten, each_row}
-use Rattle.rules.proofs.Selections.{length-each, row-each, each-alike, map-alike, row-map, some-bit}
+use Rattle.rules.proofs.Selections.{length-each, row-each, each-alike, map-alike, some-bit}
 use Rattle.rules.proofs.Words.{words_long, row_word, row_written}
 
 -- rows that keep their kinds keep their keys
@@ -277,7 +277,7 @@ module _ (d : Drive) (h : Sound d) where
   reset-sound =
       let make : Row → Row = λ r. with_flags (relocked r.flags) r in
       alike-sound (map make d.rows) d.policy (length-map d.rows make) (map-alike (λ (r : Row). r.kind) make (λ r. refl) d.rows)
-      (λ r l f. ap (λ (x : Row). x.flags) (row-map make d.rows r (within d.units d.rows h.rows r l)) ∙ ap relocked (h.rows.blanks r l f))
+      (λ r l f. ap (λ (x : Row). x.flags) (get_or-map make d.rows r no_row no_row (within d.units d.rows h.rows r l)) ∙ ap relocked (h.rows.blanks r l f))
       (policy-alike (map make d.rows) (length-map d.rows make) (map-alike (λ (r : Row). r.standing) make (λ r. refl) d.rows))
 
   pub reactivate-sound : (selection policy : ℕ) → leb (2 ^ 17) selection ≡ false → ltb 1 policy ≡ false → Sound (reactivated d selection policy)

@@ -1,13 +1,9 @@
 -- Laws of runs, whatever the states, the calls and the answers are. Assumes nothing.
-use Rattle.std.proofs.Common.{◌≡◌, ℕ, zero, suc, ◌+◌, ◌<◌, ◌≤◌, Bool, true, false, List, [], ◌∷◌, length, get_or, take, refl, ap, ◌∙◌, ⊎_elim, add-one, arith}
+use Rattle.std.proofs.Common.{◌≡◌, ℕ, zero, suc, ◌+◌, ◌<◌, ◌≤◌, Bool, true, false, List, [], ◌∷◌, length, get_or, refl, ap, ◌∙◌, ⊎_elim, add-one, arith}
 use Rattle.std.proofs.lemmas.Bool.{cases_Bool, both_ways}
-use Rattle.rules.specs.Walk.{after_by, answers_by, points_by}
+use Rattle.rules.specs.Walk.{answers_by, points_by}
 
 module _ {S C A : Type 0} (next : S → C → S) (answer : S → C → A) where
-  pub length-answers : (s : S) (cs : List C) → length (answers_by next answer s cs) ≡ length cs
-  length-answers s [] = refl
-  length-answers s (c ∷ cs) = ap suc (length-answers (next s c) cs)
-
   -- The answer to a call is that of the state it meets.
   pub answer_at : (s : S) (cs : List C) (e : S) (d : C) (a : A) (k : ℕ) → k < length cs → get_or (answers_by next answer s cs) k a ≡ answer (get_or (points_by next s cs) k e) (get_or cs k d)
   answer_at s [] e d a k lt = absurd (omega arith)
@@ -21,13 +17,6 @@ module _ {S C : Type 0} (next : S → C → S) where
   always I keep s [] e (suc k) le h = absurd (omega arith)
   always I keep s (c ∷ cs) e zero le h = h
   always I keep s (c ∷ cs) e (suc k) le h = always I keep (next s c) cs e k (omega arith) (keep s c h)
-
-  -- The state at a point is that after the calls before it.
-  pub point-after : (s : S) (cs : List C) (e : S) (k : ℕ) → k ≤ length cs → get_or (points_by next s cs) k e ≡ after_by next s (take k cs)
-  point-after s [] e zero le = refl
-  point-after s [] e (suc k) le = absurd (omega arith)
-  point-after s (c ∷ cs) e zero le = refl
-  point-after s (c ∷ cs) e (suc k) le = point-after (next s c) cs e k (omega arith)
 
   first-point : (s : S) (cs : List C) (e : S) → get_or (points_by next s cs) 0 e ≡ s
   first-point s [] e = refl
