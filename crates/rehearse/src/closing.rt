@@ -42,19 +42,19 @@ impl fmt::Display for Serials<'_> {
 
 /// Prints how the rehearsal leaves the drive: units, rows, keys held, keys eradicated in the order in which they went,
 /// and the unused count.
-pub fn report<C: Calls>(rt: &HostRuntime, table: &C, gone: &Vec<u32>) -> anyhow::Result<()> {
+pub fn report<C: Calls>(rt: &HostRuntime, table: &C, gone: &[u32]) -> anyhow::Result<()> {
     println!(rt; "\nclosing report")?;
     units(rt, table.units())?;
     rows(rt, table.rows())?;
     let all = keys(rt.alloc(), table)?;
     let mut held = Vec::new(rt.alloc());
-    for serial in all.iter() {
-        if table.holds(*serial) {
-            held.push(*serial)?;
+    for serial in all {
+        if table.holds(serial) {
+            held.push(serial)?;
         }
     }
     let held = Serials(held.as_slice());
-    let gone = Serials(gone.as_slice());
+    let gone = Serials(gone);
     let unused = shown(table.unused().map(Told::Unused));
     println!(rt; "  keys held: {held}\n  keys eradicated, in order: {gone}\n  unused: {unused}")?;
     Ok(())

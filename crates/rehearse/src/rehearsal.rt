@@ -44,10 +44,10 @@ fn rehearse<V: Vault, N: Numbering>(
         Err(cause) => println!(rt; "{words} => closed, {}", shown(Err(cause)))?,
     }
     let mut gone = Vec::new(rt.alloc());
-    for line in script.lines.iter() {
+    for line in &script.lines {
         call(rt, &mut table, line, &mut gone)?;
     }
-    report(rt, &table, &gone)
+    report(rt, &table, gone.as_slice())
 }
 
 /// Makes the call of one line, prints its answer, and notes the keys that it eradicated.
@@ -61,9 +61,9 @@ fn call<C: Calls>(
     let reply = shown(make(table, line.call));
     let words = line.words.as_str();
     println!(rt; "{words} => {reply}")?;
-    for serial in before.iter() {
-        if !table.holds(*serial) {
-            gone.push(*serial)?;
+    for serial in before {
+        if !table.holds(serial) {
+            gone.push(serial)?;
         }
     }
     Ok(())
