@@ -18,7 +18,7 @@ pub fn make<C: Calls>(table: &mut C, ask: Ask) -> Option<Reply>
     Some(steps::make(table, call))
 }
 
-/// The call of a script that asks this; none where there is no code for it yet.
+/// The call of a script that asks this; none where there is no code for it yet. A function, as both types are foreign here.
 fn script_call(ask: Ask) -> Option<script::Call>
     ensures built { is_some result ≡ is_built ask }
     ensures asked { IfSome result (λ call. asked call ≡ ask) }

@@ -12,5 +12,6 @@ pub struct Layout {
     pub rows: Rows,
     /// The serial that a fresh key gets next.
     pub next: u32,
+    /// 0 or 1: a number, as the host gives it and the sheet has it.
     pub policy: u32,
 }

@@ -1,4 +1,4 @@
-ghost use Rattle.std.specs.Prelude.{◌≡◌, ℕ, ◌<◌, ◌≤◌, false, List, [], length, is_some, Some, IfOk, IfErr, ◌==◌};
+ghost use Rattle.std.specs.Prelude.{◌≡◌, ℕ, ◌<◌, ◌≤◌, Bool, not, if◌then◌else◌, List, [], length, is_some, Some, IfOk, IfErr, ◌==◌};
 ghost use Rattle.packed.specs.First.{first};
 ghost use Rattle.packed.specs.Rising.{has, lookup, insert, remove};
 ghost use Rattle.packed.specs.Place.{IsGapFor};
@@ -77,15 +77,18 @@ impl<T: Keyed + Copy + Default, const CAP: usize> SortedList<T, CAP> {
         }
     }
 
-    /// Puts a new element into its place.
-    pub fn insert(&mut self, new: T)
-        requires room { length self.old < CAP }
-        requires fresh { has T.Keyed.key (T.Keyed.key new) self.old ≡ false }
-        ensures { self.new ≡ insert T.Keyed.key new self.old }
+    /// Puts a new element into its place, where no other has its number. Says whether it did.
+    pub fn insert(&mut self, new: T) -> bool
+        requires { length self.old < CAP }
+        ensures fresh { result ≡ not (has T.Keyed.key (T.Keyed.key new) self.old) }
+        ensures list { self.new ≡ (if has T.Keyed.key (T.Keyed.key new) self.old then self.old else insert T.Keyed.key new self.old) }
     {
         match self.search(new.key_of()) {
-            Ok(_) => (),
-            Err(at) => self.items.insert(at, new),
+            Ok(_) => false,
+            Err(at) => {
+                self.items.insert(at, new);
+                true
+            }
         }
     }
 

@@ -21,7 +21,7 @@ pub fn keys<C: Calls>(heap: Global, table: &C) -> Result<Vec<u32>, AllocError> {
     Ok(all)
 }
 
-/// Serials with a comma between, or `none`.
+/// Serials with a comma between, or `none`: a form of its own, which no derive knows.
 #[derive(Clone, Copy)]
 struct Serials<'a>(&'a [u32]);
 

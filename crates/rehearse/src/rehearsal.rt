@@ -9,7 +9,7 @@ use vault::Vault;
 use vault::chip::KeyChip;
 use vault::file::KeyFile;
 
-/// Rehearses the script over a vault of the kind that it names.
+/// Rehearses the script over a vault of the kind that it names. A match picks the types, so each kind is compiled by itself.
 pub fn perform(rt: &HostRuntime, script: &Script) -> anyhow::Result<()> {
     match script.layout.numbering {
         NumberingKind::Nvme => over_vault::<Nvme>(rt, script),
@@ -24,6 +24,7 @@ fn over_vault<N: Numbering>(rt: &HostRuntime, script: &Script) -> anyhow::Result
         VaultKind::Chip => {
             // More than 64 registers are unfit, however many there are, so 65 stand for any such number.
             let mut registers = [0; 65];
+            // At most 65, so the cast cannot fail.
             let count = capacity.min(65) as usize;
             rehearse::<_, N>(rt, script, &mut KeyChip::new(&mut registers[0..count]))
         }

@@ -5,7 +5,7 @@ use rules::row::Standing;
 use std::fmt;
 use steps::shown::Shown;
 
-/// A call or a question in the words of a script: who calls, its name, and what it is called with.
+/// A call or a question in the words of a script: who calls, its name, and what it is called with. Each has a form of its own.
 #[derive(Clone, Copy)]
 pub struct Words(pub Ask);
 

@@ -73,7 +73,8 @@ pub enum Status {
 }
 
 impl Cause {
-    /// The number of the cause. It is one thing that a cause has, and no other way to write it: a cause may carry a block and a row.
+    /// The number of the cause.
+    // Number and status are two things that a cause has, and no other way to write it: a cause may carry a block and a row.
     pub fn number(self) -> u32
         ensures { result ≡ number self }
     {

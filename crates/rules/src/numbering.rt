@@ -4,6 +4,7 @@ ghost use Rattle.rules.specs.Units.{valid};
 ghost use Rattle.rules.specs.declared.numbering.Bounds.{Bounds};
 
 /// What a numbering fixes: the mark of a row without a unit, the first and the last unit number, and its code on the sheet.
+// The mark and the code are numbers because the sheet's format has them so.
 #[derive(Clone, Copy)]
 pub struct Bounds {
     pub mark: u32,
@@ -22,8 +23,7 @@ pub trait Numbering {
 }
 
 /// NVMe namespaces count from 1; 0 marks a row without one.
-#[derive(Clone, Copy)]
-pub struct Nvme {}
+pub struct Nvme;
 
 impl Numbering for Nvme {
     const BOUNDS: Bounds = Bounds {
@@ -39,8 +39,7 @@ impl Numbering for Nvme {
 }
 
 /// SCSI logical units count from 0; 0xFFFF_FFFF marks a row without one.
-#[derive(Clone, Copy)]
-pub struct Scsi {}
+pub struct Scsi;
 
 impl Numbering for Scsi {
     const BOUNDS: Bounds = Bounds {

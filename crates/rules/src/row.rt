@@ -40,6 +40,7 @@ pub enum Kind {
         unit: u32,
     },
     /// Some blocks of one unit, under a key of their own; also at length 0.
+    // Start and length are two numbers here as in the calls, on the sheet and in the definitions, which add and compare them.
     RangeRow {
         unit: u32,
         start: u64,

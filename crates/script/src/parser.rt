@@ -117,6 +117,7 @@ fn fresh<'a>(words: &mut Words<'a>) -> Result<Layout, Fault<'a>>
     })
 }
 
+// Each call is read by a function of its own, which names its fields: one for two calls would be told them by its caller.
 /// `create UNIT BLOCKS`
 fn create<'a>(words: &mut Words<'a>) -> Result<Call, Fault<'a>>
     ensures { IfOk result (λ k. Called (codes "create") k words.old words.new) }

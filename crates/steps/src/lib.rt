@@ -18,6 +18,7 @@ pub fn make<C: Calls>(table: &mut C, call: Call) -> Reply
     ensures reply { result ≡ reply_to (C.model table.old) (asked call) }
     ensures after { C.model table.new ≡ left_by (C.model table.old) (asked call) }
 {
+    // A call is data, and each takes other arguments: no table of functions would be shorter.
     Ok(match call {
         Call::Create { unit, blocks } => {
             table.create(unit, blocks)?;

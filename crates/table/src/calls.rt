@@ -13,6 +13,7 @@ use rules::unit::{Control, LogicalUnit};
 use vault::Vault;
 
 /// The calls of a drive, by its model: what each answers, and what it leaves.
+// The clauses of each call name the definitions of that call, so they stand with it and not in one clause for all.
 pub trait Calls {
     ghost model: { Self → Drive };
 
@@ -76,16 +77,12 @@ impl<'v, V: Vault, N: Numbering> Calls for Table<'v, V, N> {
     }
 
     fn unused(&self) -> Result<u32, Cause> {
-        if self.closed {
-            return Err(Cause::Closed);
-        }
+        self.check_open()?;
         Ok(self.unused_keys())
     }
 
     fn controls(&self, number: u32, block: u64) -> Result<Control, Cause> {
-        if self.closed {
-            return Err(Cause::Closed);
-        }
+        self.check_open()?;
         let unit = self.layout.units.get(number).ok_or(Cause::NoSuchUnit)?;
         if unit.blocks <= block {
             return Err(Cause::BlockOutOfRange);

@@ -1,4 +1,6 @@
-ghost use Rattle.std.specs.Prelude.{◌≡◌, ℕ};
+ghost use Rattle.std.specs.Prelude.{◌≡◌, ℕ, [], ◌∷◌};
+ghost use Rattle.vault.specs.Checks.{first_of, answer};
+ghost use Rattle.rules.specs.declared.cause.Cause.TheVariants.{Closed};
 ghost use Rattle.rules.specs.Commands.{create_answer, delete_answer};
 ghost use Rattle.rules.specs.Drive.{unused_keys};
 
@@ -18,12 +20,20 @@ impl<'v, V: Vault, N: Numbering> Table<'v, V, N> {
         self.vault.capacity().saturating_sub(self.vault.count())
     }
 
-    pub(crate) fn check_create(&self, number: u32, blocks: u64) -> Result<(), Cause>
-        ensures { result ≡ create_answer (⟦<Table<'v, V, N> as Calls>⟧.model self.now) number blocks }
+    /// The first check of every call.
+    pub(crate) fn check_open(&self) -> Result<(), Cause>
+        ensures { result ≡ answer (first_of ((self.now.closed, Closed) ∷ [])) tt }
     {
         if self.closed {
             return Err(Cause::Closed);
         }
+        Ok(())
+    }
+
+    pub(crate) fn check_create(&self, number: u32, blocks: u64) -> Result<(), Cause>
+        ensures { result ≡ create_answer (⟦<Table<'v, V, N> as Calls>⟧.model self.now) number blocks }
+    {
+        self.check_open()?;
         if !is_valid::<N>(number) {
             return Err(Cause::NoSuchUnit);
         }
@@ -51,9 +61,7 @@ impl<'v, V: Vault, N: Numbering> Table<'v, V, N> {
     pub(crate) fn check_delete(&self, number: u32) -> Result<(), Cause>
         ensures { result ≡ delete_answer (⟦<Table<'v, V, N> as Calls>⟧.model self.now) number }
     {
-        if self.closed {
-            return Err(Cause::Closed);
-        }
+        self.check_open()?;
         if !self.layout.units.contains(number) {
             return Err(Cause::NoSuchUnit);
         }

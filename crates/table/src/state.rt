@@ -22,6 +22,7 @@ pub struct Table<'v, V: Vault, N: Numbering> {
 pub fn fresh_check<V: Vault>(vault: &V) -> Result<(), Cause>
     ensures { result ≡ fresh_check (V.meaning vault.now) }
 {
+    // A table is told its vault's capacity, so this check compares it with 1 and 64 as the vaults' own checks do theirs.
     let capacity = vault.capacity();
     if capacity < 1 || capacity > 64 {
         return Err(Cause::Closed);

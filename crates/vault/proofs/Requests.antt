@@ -1,5 +1,5 @@
 -- When a request is accepted, and that it then leaves a sound meaning.
-use Rattle.std.proofs.Common.{◌≡◌, ℕ, ◌<◌, ◌≤◌, true, false, not, eqb, leb, [], ◌∷◌, length, None, arith}
+use Rattle.std.proofs.Common.{◌≡◌, ℕ, ◌<◌, ◌≤◌, true, false, not, eqb, leb, List, if◌then◌else◌, [], ◌∷◌, length, None, arith}
 use Rattle.std.proofs.lemmas.Bool.{and_parts, and_from, leb-true, le-leb, lt-leb, ne_eqb, not-false}
 use Rattle.std.proofs.lemmas.Bool.Decides.{nat_tests}
 use Rattle.packed.proofs.Order.{rises-insert, rises-remove, length-insert, length-remove, has-remove}
@@ -61,3 +61,7 @@ module _ (m : Meaning) (ok : sound m ≡ true) where
       sound-from (with_held m (adds t (drops s m.held)))
       (rises-insert (λ x. x) 1 t (drops s m.held) (grind (arith, nat_tests)) (has-remove (λ x. x) t s m.held p.2) (rises-remove (λ x. x) 1 s m.held rises))
       (omega (arith, room, length-insert (λ x. x) t (drops s m.held), length-remove (λ x. x) s m.held p.0))
+
+-- a sorted list that has not the serial, with the serial in its place
+pub added : (s : ℕ) (xs ys : List ℕ) → holds s xs ≡ false → ys ≡ (if holds s xs then xs else adds s xs) → ys ≡ adds s xs
+added s xs ys h e = simp h at e

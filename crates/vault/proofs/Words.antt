@@ -1,5 +1,5 @@
 -- The set of the words that are not 0.
-use Rattle.std.proofs.Common.{◌≡◌, ℕ, zero, suc, ◌<◌, ◌≤◌, true, false, not, cond, ◌&&◌, eqb, ltb, List, [], ◌∷◌, length, get_or, set, sym, refl, ap, ◌∙◌, arith}
+use Rattle.std.proofs.Common.{◌≡◌, ℕ, zero, suc, ◌<◌, ◌≤◌, true, not, cond, ◌&&◌, eqb, ltb, List, [], ◌∷◌, length, get_or, set, sym, refl, ap, ◌∙◌, arith}
 use Rattle.std.proofs.lemmas.Bool.Decides.{nat_tests}
 use Rattle.std.proofs.lemmas.List.{set-set, set-get_or, get_or-set_same, length-set}
 use Rattle.std.proofs.lemmas.List.Sums.{sum_by-cons}
@@ -62,17 +62,3 @@ pub count-words : (xs : List ℕ) → count_by (λ x. not (eqb x 0)) xs ≡ leng
 unfolding collect
 count-words [] = refl
 count-words (x ∷ xs) = let h = count-words xs in let c = sum_by-cons (λ x. cond (not (eqb x 0)) 1 0) x xs in let k = length-insert (λ y. y) x (collect xs) in grind (arith, nat_tests)
-
--- ---- what the first word tells
-module _ (rest : List ℕ) (w : ℕ) (others : List ℕ) (parts : rest ≡ w ∷ others) where
-  pub distinct-fails : (w ≡ 0 → ⊥) → holds w others ≡ true → distinct rest ≡ false
-  unfolding distinct
-  distinct-fails n h = rw parts (grind (arith, nat_tests))
-
-  pub distinct-blank : w ≡ 0 → distinct others ≡ distinct rest
-  unfolding distinct
-  distinct-blank z = rw parts (grind (arith, nat_tests))
-
-  pub distinct-goes : holds w others ≡ false → distinct others ≡ distinct rest
-  unfolding distinct
-  distinct-goes h = rw parts (grind (arith, nat_tests))

@@ -14,7 +14,7 @@ nothing = record { capacity = 0; held = [] }
 abbrev pub can_be_capacity : ℕ → Bool
 can_be_capacity n = nat_le 1 n && nat_le n 64
 
--- ---- the key file: the first len of an array of serials
+-- ---- the key file: its serials in a sorted list
 abbrev pub file_check : ℕ → Outcome
 file_check capacity = answer (first_of ((not (can_be_capacity capacity), Unfit) ∷ [])) tt
 
@@ -22,7 +22,8 @@ file_check capacity = answer (first_of ((not (can_be_capacity capacity), Unfit) 
 abbrev pub file_new : ℕ → Meaning
 file_new capacity = record { capacity = cond (can_be_capacity capacity) capacity 0; held = [] }
 
--- ---- the key chip: the words that are not 0 of the first so many registers, which are all of them, or none where they are unfit
+-- ---- the key chip: the words that are not 0 of the first so many registers, which are all of them, or none where they are unfit.
+-- `put_into` says what registers hold that are no chip yet, so these definitions take the two and not a chip
 abbrev pub fit : List ℕ → Bool
 fit words = can_be_capacity (length words) && distinct words
 

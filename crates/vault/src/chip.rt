@@ -11,7 +11,7 @@ use packed::{contains, place_of};
 #[derive(Drop)]
 pub struct KeyChip<'a> {
     registers: &'a mut [u32],
-    // All, or none where they are unfit. A shorter slice would not do: whoever lent them is to know unfit words again.
+    // All, or none where they are unfit: `new` gives a vault for any registers. A shorter slice would not do: whoever lent them is to know unfit words again.
     used: usize,
     ghost sized: { (used ≤ length registers.now) × (used ≤ 64) },
     ghost ordered: { sound (chip_meaning used registers.now) ≡ true },
@@ -24,6 +24,7 @@ impl<'a> KeyChip<'a> {
     pub fn check(registers: &[u32]) -> Result<(), VaultRefusal>
         ensures { result ≡ chip_check registers.now }
     {
+        // A chip counts its registers and a file is told its capacity, so each check compares its own number with 1 and 64.
         let n = registers.len();
         if n >= 1 && n <= 64 && all_distinct(registers) {
             Ok(())
@@ -68,17 +69,14 @@ impl<'a> KeyChip<'a> {
 }
 
 /// Whether no word but 0 stands twice.
+#[tactic(auto, unfolding(crate::specs::Serials::distinct))]
 fn all_distinct(words: &[u32]) -> bool
     ensures { result ≡ distinct words.now }
 {
-    let mut rest = words;
-    while let Some((word, others)) = rest.split_first() {
-        if *word != 0 && contains(others, *word) {
-            return false;
-        }
-        rest = others;
+    match words {
+        [] => true,
+        [word, others @ ..] => { (*word == 0 || !contains(others, *word)) && all_distinct(others) }
     }
-    true
 }
 
 impl<'a> KeySet for KeyChip<'a> {

@@ -29,7 +29,7 @@ impl KeyFile {
         }
     }
 
-    /// An empty key file. Its capacity is 0 where `check` refuses.
+    /// An empty key file. Its capacity is 0 where `check` refuses: there is a key file for any number.
     pub fn new(capacity: u32) -> KeyFile
         ensures { file_view result ≡ file_new capacity }
     {

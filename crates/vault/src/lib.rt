@@ -36,6 +36,7 @@ pub trait KeySet {
 
 /// A key set that takes keys in and lets them go. What it answers and does follows from its meaning alone,
 /// so code over vaults is proved once, from these contracts.
+// The clauses of each request name the definitions of that request, so they stand with it and not in one clause for all.
 pub trait Vault: KeySet {
     /// Takes a key in. Refuses serial 0, a serial that is held, and a full vault.
     fn put(&mut self, serial: u32) -> Result<(), VaultRefusal>

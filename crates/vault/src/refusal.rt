@@ -16,7 +16,7 @@ pub enum VaultRefusal {
 }
 
 impl VaultRefusal {
-    /// The number by which the refusal is reported.
+    /// The number by which the refusal is reported: a host is told it, and code tells refusals apart by their names.
     pub fn number(self) -> u32
         ensures { result ≡ number self }
     {
