@@ -50,7 +50,8 @@ impl<T: Keyed + Copy + Default, const CAP: usize> SortedList<T, CAP> {
         self.items.len()
     }
 
-    // Where the number is, or where it would go.
+    // Where the number is, or where it would go. Who asks matches on it: the place is within the list only where it was found,
+    // which a closure would have to be told by a clause.
     fn search(&self, number: u32) -> Result<usize, usize>
         ensures found { IfOk result (λ i. first (λ x. T.Keyed.key x == number) self.now ≡ Some i) }
         ensures within { IfOk result (λ i. i < length self.now) }

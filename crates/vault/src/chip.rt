@@ -7,7 +7,7 @@ use crate::refusal::{VaultRefusal, check_drop, check_put, check_swap};
 use crate::{KeySet, Vault};
 use packed::{contains, place_of};
 
-/// A vault in the registers of a device: each word that is not 0 is a held serial.
+/// A vault in the registers of a device, which has each as a word: 0, or a held serial.
 #[derive(Drop)]
 pub struct KeyChip<'a> {
     registers: &'a mut [u32],
