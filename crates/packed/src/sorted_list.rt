@@ -50,8 +50,7 @@ impl<T: Keyed + Copy + Default, const CAP: usize> SortedList<T, CAP> {
         self.items.len()
     }
 
-    // Where the number is, or where it would go. Who asks matches on it: the place is within the list only where it was found,
-    // which a closure would have to be told by a clause.
+    // Where the number is, or where it would go.
     fn search(&self, number: u32) -> Result<usize, usize>
         ensures found { IfOk result (λ i. first (λ x. T.Keyed.key x == number) self.now ≡ Some i) }
         ensures within { IfOk result (λ i. i < length self.now) }
@@ -72,6 +71,7 @@ impl<T: Keyed + Copy + Default, const CAP: usize> SortedList<T, CAP> {
         ensures found { result ≡ lookup T.Keyed.key number self.now }
         ensures there { is_some result ≡ has T.Keyed.key number self.now }
     {
+        // A match, since the place is within the list only where it was found, and a closure would have to be told so by a clause.
         match self.search(number) {
             Ok(at) => Some(self.items[at]),
             Err(_) => None,
@@ -99,6 +99,7 @@ impl<T: Keyed + Copy + Default, const CAP: usize> SortedList<T, CAP> {
         ensures there { is_some result ≡ has T.Keyed.key number self.old }
         ensures left { self.new ≡ remove T.Keyed.key number self.old }
     {
+        // A match, as in `get`.
         match self.search(number) {
             Ok(at) => Some(self.items.remove(at)),
             Err(_) => None,

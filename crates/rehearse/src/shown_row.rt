@@ -2,7 +2,7 @@ use rules::row::{Flags, Kind, Row};
 use std::fmt;
 use steps::shown::Shown;
 
-/// A row as it is read: unit, start, length, key, flags, kind and standing, in a form of its own.
+/// A row as it is read: unit, start, length, key, flags, kind and standing, in a form of its own, which no derive knows.
 #[derive(Clone, Copy)]
 pub struct ShownRow(pub Row);
 

@@ -91,6 +91,7 @@ impl<'a> KeySet for KeyChip<'a> {
         self.used as u32
     }
 
+    // As many at most.
     fn count(&self) -> u32 {
         self.words().iter().filter(|word| **word != 0).count() as u32
     }

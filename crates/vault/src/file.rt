@@ -22,6 +22,7 @@ impl KeyFile {
     pub fn check(capacity: u32) -> Result<(), VaultRefusal>
         ensures { result ≡ file_check capacity }
     {
+        // A file is told its capacity and a chip counts its registers, so each check compares its own number with 1 and 64.
         if capacity >= 1 && capacity <= 64 {
             Ok(())
         } else {
