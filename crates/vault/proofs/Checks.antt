@@ -1,5 +1,5 @@
 -- What follows where a call is refused, and where it is accepted.
-use Rattle.std.proofs.Common.{◌≡◌, Bool, true, false, cond, List, [], ◌∷◌, Some, None, Ok, Err, Option, Result, refl}
+use Rattle.std.proofs.Common.{◌≡◌, Bool, true, false, cond, List, [], ◌∷◌, Some, None, Ok, Err, Option, Result, refl, ap}
 use Rattle.std.specs.List.{AllByRecursion}
 use Rattle.vault.specs.Checks.{first_of, answer, unless}
 
@@ -11,6 +11,11 @@ module _ {A C : Type 0} (done : A) where
   pub unchanged : {S : Type 0} (refusal : Option C) (c : C) (was after : S) → ◌≡◌ {A = Result A C} (Err c) (answer refusal done) → was ≡ unless refusal was after
   unchanged (Some d) c was after e = refl
   unchanged None c was after e = absurd (cc)
+
+-- a refusal is the same, whatever would have been answered
+pub refused-alike : {A B C : Type 0} (o : Option C) (x : A) (y : B) (c : C) → answer o x ≡ Err c → answer o y ≡ Err c
+refused-alike None x y c e = cc
+refused-alike (Some d) x y c e = let same : d ≡ c = cc in ap Err same
 
 pub changed : {C S : Type 0} (refusal : Option C) (was after : S) → refusal ≡ None → after ≡ unless refusal was after
 changed refusal was after e = rw e

@@ -3,7 +3,7 @@ use Rattle.std.proofs.Common.{◌≡◌, ℕ, ◌<◌, ◌≤◌, Bool, true, fa
 use Rattle.std.specs.Option.{unwrap_or}
 use lib.Seq.{take-set-lt}
 use Rattle.std.proofs.lemmas.Bool.Decides.{nat_tests}
-use Rattle.std.proofs.lemmas.Bool.{eqb-true, true≢false}
+use Rattle.std.proofs.lemmas.Bool.{eqb-true, true≢false, not-false}
 use Rattle.std.proofs.lemmas.List.{length-take-le, take_all}
 use Rattle.vault.specs.declared.refusal.VaultRefusal.{VaultRefusal}
 use Rattle.vault.specs.declared.refusal.VaultRefusal.TheVariants.{Unfit}
@@ -15,15 +15,12 @@ use Rattle.packed.proofs.Order.{has-absent}
 use Rattle.vault.specs.Serials.{holds, adds, drops, collect}
 use Rattle.vault.specs.Meaning.{Meaning, Outcome, sound, with_held, put_refusal, swap_refusal, drop_refusal}
 use Rattle.vault.specs.Kinds.{chip_check, chip_meaning, fit, lowest, overwritten, nothing}
+use Rattle.vault.proofs.Checks.{accepted, all-passed}
 use Rattle.vault.proofs.Words.{rises-collect, length-collect, holds-collect, holds-zero, collect-set, collect-clear, collect-swap}
 use Rattle.vault.proofs.Requests.{sound-from, put-passed, swap-passed, drop-passed}
 
 pub fit-true : (words : List ℕ) → ◌≡◌ {A = Outcome} (Ok tt) (chip_check words) → fit words ≡ true
-fit-true words e = go (fit words) e
-  where
-    go : (b : Bool) → ◌≡◌ {A = Outcome} (Ok tt) (answer (first_of ((not b, Unfit) ∷ [])) tt) → b ≡ true
-    go true e = refl
-    go false e = grind arith
+fit-true words e = not-false _ (all-passed ((not (fit words), Unfit) ∷ []) (accepted tt _ e)).0
 
 pub fit-false : (words : List ℕ) (x : VaultRefusal) → ◌≡◌ {A = Outcome} (Err x) (chip_check words) → fit words ≡ false
 fit-false words x e = go (fit words) e

@@ -1,7 +1,7 @@
 use Rattle.std.proofs.Common.{rules, sym}
 use Rattle.rules.specs.declared.call.Accepted.TheVariants.{Success}
 use Rattle.rules.specs.Commands.{create_refusal, delete_refusal}
-use Rattle.steps.proofs.Refusals.{refused-alike}
+use Rattle.vault.proofs.Checks.{refused-alike}
 use Rattle.steps.proofs.make.Goals as goal
 
 -- the table refuses as the call does
