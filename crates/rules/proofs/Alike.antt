@@ -9,8 +9,7 @@ use Rattle.rules.specs.declared.unit.Holder.{Holder}
 use Rattle.rules.specs.declared.unit.Holder.TheVariants.{TheUnit, TheRow}
 use Rattle.rules.specs.Drive.{Drive}
 use Rattle.rules.specs.FreshKeys.{fresh_key, fresh_keys}
-use Rattle.rules.specs.Questions.{controlling_row}
-use Rattle.rules.specs.Rows.{no_row, row, is_free, with_serial, unit_row_of, range_over, suits}
+use Rattle.rules.specs.Rows.{no_row, row, is_free, with_serial, unit_row_of, range_over, suits, controlling_row}
 use Rattle.rules.specs.Units.{exists, unit}
 use Rattle.rules.proofs.Renewals.{rekeyed_row, keyed-exists, keyed-blocks, unit-row-same, range-over-same}
 use Rattle.rules.proofs.Searches.{first-same, set-alike, control-as}

@@ -1,19 +1,17 @@
 -- A blank drive is one that a sheet can describe.
-use Rattle.std.proofs.Common.{◌≡◌, ℕ, zero, suc, ◌<◌, true, false, not, ltb, [], ◌∷◌, length, replicate, is_some, None, sym, refl, ap, ◌∙◌, arith}
+use Rattle.std.proofs.Common.{◌≡◌, ℕ, zero, suc, ◌<◌, true, false, [], ◌∷◌, length, replicate, is_some, None, sym, refl, ap, ◌∙◌, arith}
 use Rattle.std.proofs.lemmas.List.{get_or-replicate, nil_from_length}
 use Rattle.std.proofs.lemmas.Bool.{both_ways, ltb-false, not-false, true≢false}
 use Rattle.packed.specs.Rising.{rises, has}
-use Rattle.vault.specs.Kinds.{can_be_capacity}
 use Rattle.vault.specs.Meaning.{Meaning, sound}
 use Rattle.vault.specs.Serials.{holds, collect}
-use Rattle.rules.specs.declared.cause.Cause.TheVariants.{Closed}
 use Rattle.rules.specs.declared.numbering.Bounds.{Bounds}
 use Rattle.rules.specs.declared.row.Row.{Row}
 use Rattle.rules.specs.declared.row.Sought.{Sought}
 use Rattle.rules.specs.declared.row.Sought.TheVariants.{UnitRowOf, RangeOver}
-use Rattle.rules.specs.LayingOut.{fresh_refusal, fresh}
-use Rattle.rules.specs.Rows.{blank, no_row, row, free_row, global_row, suits, any_row}
-use Rattle.rules.specs.Sound.{Sound, SoundRows, AtMostOne, is_global, row_fits}
+use Rattle.rules.specs.LayingOut.{fresh_checks, fresh_refusal, fresh}
+use Rattle.rules.specs.Rows.{blank, free_row, global_row, no_row, row, suits}
+use Rattle.rules.specs.Sound.{is_global, row_fits, AtMostOne, SoundRows, Sound}
 use Rattle.vault.proofs.Checks.{all-passed}
 use Rattle.rules.proofs.Keys.{make-keys}
 
@@ -55,9 +53,9 @@ blank-rows = record {
     each_row (suc r) l = ap (λ (x : Row). x.flags) (get_or-replicate 16 r free_row no_row (omega arith))
 
 pub fresh-sound : (bounds : Bounds) (m : Meaning) → sound m ≡ true → fresh_refusal m ≡ None → Sound (fresh bounds m)
-unfolding rises has collect any_row
+unfolding rises has collect
 fresh-sound bounds m ok e =
-    let p = all-passed ((not (can_be_capacity m.capacity), Closed) ∷ (ltb 0 (length m.held), Closed) ∷ []) e in
+    let p = all-passed (fresh_checks m) e in
     let empty : m.held ≡ [] = nil_from_length m.held (omega (arith, ltb-false 0 (length m.held) p.1.0)) in
     record {
       usable = ap is_some e;

@@ -1,10 +1,8 @@
 -- A block of a unit: its row and its key.
-use Rattle.std.proofs.Common.{◌≡◌, ℕ, ◌+◌, ◌<◌, ◌≤◌, Bool, true, false, cond, not, eqb, ◌≢◌, ◌⊎◌, List, [], ◌∷◌, map, length, get_or, is_some, None, filter, Option, unwrap_or, sym, refl, ap, ◌∙◌, subst, inl, inr, arith}
+use Rattle.std.proofs.Common.{◌≡◌, ℕ, ◌<◌, ◌≤◌, Bool, true, false, cond, not, eqb, ◌≢◌, ◌⊎◌, List, [], ◌∷◌, map, is_some, None, filter, sym, refl, ap, ◌∙◌, subst, inl, inr, arith}
 use Rattle.std.proofs.lemmas.Bool.Decides.{nat_tests}
-use Rattle.std.proofs.lemmas.Bool.{cases_eq, both_ways, and_parts, eqb-true, eq-eqb, ltb-true, true≢false, cond-true}
+use Rattle.std.proofs.lemmas.Bool.{cases_eq, both_ways, and_parts, eqb-true, eq-eqb, true≢false, cond-true}
 use Rattle.packed.specs.Rising.{has}
-use Rattle.packed.proofs.Order.{lookup-found}
-use Rattle.packed.proofs.Search.{found_within}
 use Rattle.rules.specs.declared.row.Kind.{Kind}
 use Rattle.rules.specs.declared.row.Kind.TheVariants.{Free, Global, UnitRow, RangeRow}
 use Rattle.rules.specs.declared.row.Row.{Row}
@@ -12,20 +10,17 @@ use Rattle.rules.specs.declared.row.Sought.TheVariants.{UnitRowOf, RangeOver}
 use Rattle.rules.specs.declared.unit.Holder.{Holder}
 use Rattle.rules.specs.declared.unit.Holder.TheVariants.{TheUnit, TheRow}
 use Rattle.rules.specs.declared.unit.LogicalUnit.{LogicalUnit}
-use Rattle.rules.specs.Drive.{Drive}
-use Rattle.rules.specs.FreshKeys.{fresh_key, fresh_keys, units_under_global}
+use Rattle.rules.specs.Drive.{Drive, kind_of}
+use Rattle.rules.specs.FreshKeys.{key_of, HasKey, fresh_key, fresh_keys, units_under_global}
 use Rattle.rules.specs.Laws.{block_key}
-use Rattle.rules.specs.Methods.{kind_of}
-use Rattle.rules.specs.Questions.{controlling_row, key_or}
-use Rattle.rules.specs.Rows.{row, is_free, covers, unit_row_of, range_over, lowest_row, is_there}
-use Rattle.rules.specs.Sound.{Sound, SoundRows, row_fits, serials}
+use Rattle.rules.specs.Rows.{row, is_range_row, covers, unit_row_of, range_over, lowest_row, is_there, controlling_row, key_or}
+use Rattle.rules.specs.Sound.{row_fits, SoundRows, Sound}
 use Rattle.rules.specs.Units.{no_unit, exists, unit}
-use Rattle.rules.proofs.Keys.{word_held}
-use Rattle.rules.proofs.Lookups.{place_of, lookup_key}
-use Rattle.rules.proofs.Renewals.{unit-key, keyed-exists, keyed-serial}
-use Rattle.rules.proofs.RowsKept.{within, in_table, unit-row-there, fits-exists, fits_under, fits-key}
+use Rattle.rules.proofs.Holders.{key-held}
+use Rattle.rules.proofs.Lookups.{lookup_key}
+use Rattle.rules.proofs.Renewals.{keyed-exists, keyed-serial}
+use Rattle.rules.proofs.RowsKept.{unit-row-there, fits-exists, fits_under}
 use Rattle.rules.proofs.Searches.{hit, control-by}
-use Rattle.rules.proofs.Words.{words_long, unit-word, row_word}
 
 -- the unit that is found has the number that is looked for
 pub key-is : (d : Drive) (n block : ℕ) → exists n d.units ≡ true → block_key d n block ≡ key_or (kind_of d (controlling_row d.rows n block)) (unit n d.units).serial
@@ -79,22 +74,14 @@ module _ (units : List LogicalUnit) (rows : List Row) (h : SoundRows units rows)
 
 -- ---- every key was given
 module _ (d : Drive) (h : Sound d) where
-  abbrev words : List ℕ
-  words = serials d.units d.rows
+  holder-given : (holder : Holder) → HasKey d holder → key_of d holder < d.next
+  holder-given holder v = h.keys.given (key_of d holder) (key-held d h holder v)
 
   unit-given : (n : ℕ) → exists n d.units ≡ true → (unit n d.units).serial < d.next
-  unit-given n ex =
-      let p = place_of (λ (u : LogicalUnit). u.number) n d.units ex in
-      let i = p.0 in
-      let l : i < length d.units = found_within (λ (u : LogicalUnit). eqb u.number n) d.units i p.1 in
-      let at : get_or d.units i no_unit ≡ unit n d.units = sym (ap (λ (o : Option LogicalUnit). unwrap_or o no_unit) (lookup-found (λ (u : LogicalUnit). u.number) n d.units i p.1 no_unit)) in
-      h.keys.given (unit n d.units).serial (word_held d.next d.vault words h.keys i (unit n d.units).serial (omega (arith, words_long d.units d.rows)) (unit-word d.units d.rows i l ∙ ap (λ (u : LogicalUnit). u.serial) at) (λ e. omega (arith, unit-key d n h ex)))
+  unit-given n ex = holder-given (TheUnit n) ex
 
   row-given : (r n start len serial : ℕ) → kind_of d r ≡ RangeRow n start len serial → serial < d.next
-  row-given r n start len serial e =
-      let l = within d.units d.rows h.rows r (in_table d.units d.rows h.rows r (ap is_free e)) in
-      let k = ltb-true 0 serial (fits-key d.units d.rows n start len serial (ap (row_fits d.units d.rows) (sym e) ∙ h.rows.each r)) in
-      h.keys.given serial (word_held d.next d.vault words h.keys (length d.units + r) serial (omega (arith, words_long d.units d.rows)) (row_word d.units d.rows r l ∙ ap (λ q. key_or q 0) e) (λ z. omega arith))
+  row-given r n start len serial e = subst (λ k. key_or k 0 < d.next) e (holder-given (TheRow r) (ap is_range_row e))
 
   pub key-given : (n block : ℕ) → exists n d.units ≡ true → block_key d n block < d.next
   key-given n block ex = subst (λ k. k < d.next) (sym (key-is d n block ex)) (control-is d.units d.rows h.rows n block (λ i. key_or (kind_of d i) (unit n d.units).serial < d.next)

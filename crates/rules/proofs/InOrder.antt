@@ -1,5 +1,5 @@
 -- Fresh keys are given in order, each to another holder.
-use Rattle.std.proofs.Common.{◌≡◌, ℕ, zero, suc, ◌+◌, ◌<◌, Bool, true, false, cond, not, eqb, leb, ◌≢◌, List, [], ◌∷◌, map, length, get_or, filter, sym, refl, ap, ◌∙◌, inl, inr, arith}
+use Rattle.std.proofs.Common.{◌≡◌, ℕ, zero, suc, ◌+◌, ◌<◌, Bool, true, false, cond, not, eqb, leb, ◌≢◌, List, [], ◌∷◌, map, length, get_or, filter, sym, refl, ap, ◌∙◌, subst, inl, inr, arith}
 use Rattle.std.proofs.ByRecursion.{All-weaker, All-map}
 use Rattle.std.proofs.lemmas.List.{get_or_past}
 use Rattle.std.proofs.lemmas.Bool.{cases_lt, both_ways, and_parts, leb-true, eq-eqb, ne_eqb, cond-true, cond-false}
@@ -13,14 +13,13 @@ use Rattle.rules.specs.declared.row.Sought.TheVariants.{UnitRowOf, RangeRowOf}
 use Rattle.rules.specs.declared.unit.Holder.{Holder}
 use Rattle.rules.specs.declared.unit.Holder.TheVariants.{TheUnit, TheRow}
 use Rattle.rules.specs.declared.unit.LogicalUnit.{LogicalUnit}
-use Rattle.rules.specs.Drive.{Drive}
-use Rattle.rules.specs.FreshKeys.{HasKey, key_of, fresh_key, fresh_keys, units_under_global, holders_of, unit_and_ranges}
+use Rattle.rules.specs.Drive.{Drive, kind_of}
+use Rattle.rules.specs.FreshKeys.{key_of, HasKey, fresh_key, fresh_keys, units_under_global, holders_of, unit_and_ranges}
 use Rattle.rules.specs.Meanings.{KeyedInOrder, FreshKeysInOrder}
-use Rattle.rules.specs.Methods.{kind_of}
-use Rattle.rules.specs.Questions.{key_or}
-use Rattle.rules.specs.Rows.{no_row, row, is_range_row, with_serial, suits, is_there, all_rows}
+use Rattle.rules.specs.Rows.{no_row, row, is_range_row, with_serial, suits, is_there, all_rows, key_or}
 use Rattle.rules.specs.Sound.{Sound}
 use Rattle.rules.proofs.Renewals.{range-parts, keyed-serial, rekeyed_row, valid-kept, valid-of-row, valid-of-unit}
+use Rattle.rules.proofs.Numbered.{all-more}
 use Rattle.rules.proofs.Searches.{written, unwritten}
 
 -- ---- one fresh key
@@ -107,7 +106,7 @@ units-once rows low (u ∷ us) r =
 rows-once : (w : Sought) (rows : List Row) → NoRepeat (all_rows w rows)
 unfolding all_rows
 rows-once w [] = tt
-rows-once w (x ∷ xs) = go (suits w x) (no-repeat-map suc (λ a b e. omega arith) (all_rows w xs) (rows-once w xs))
+rows-once w (x ∷ xs) = subst NoRepeat (sym (all-more w x xs)) (go (suits w x) (no-repeat-map suc (λ a b e. omega arith) (all_rows w xs) (rows-once w xs)))
   where
     go : (b : Bool) → NoRepeat (map suc (all_rows w xs)) → NoRepeat (cond b (0 ∷ map suc (all_rows w xs)) (map suc (all_rows w xs)))
     go true n = (All-map (λ y. y ≢ 0) suc (all_rows w xs) (all_of (λ y. suc y ≢ 0) (λ y e. omega arith) (all_rows w xs)), n)

@@ -13,11 +13,11 @@ use Rattle.vault.proofs.Checks.{changed}
 use Rattle.vault.proofs.Requests.{put-accepted, swap-accepted, drop-accepted, rises as rises-held, put-sound, swap-sound, drop-sound}
 use Rattle.vault.proofs.Words.{adds-comm, holds-collect, collect-set, collect-swap}
 use Rattle.rules.specs.declared.unit.LogicalUnit.{LogicalUnit}
-use Rattle.rules.specs.Sound.{SoundKeys, serial_of}
+use Rattle.rules.specs.Sound.{serial_of, SoundKeys}
 use Rattle.rules.specs.Units.{exists, unit, with_unit, without_unit}
 
 -- ---- words, and the set that they make
-holds_at : (xs : List ℕ) (i : ℕ) → i < length xs → holds (get_or xs i 0) xs ≡ true
+pub holds_at : (xs : List ℕ) (i : ℕ) → i < length xs → holds (get_or xs i 0) xs ≡ true
 unfolding has
 holds_at [] i l = absurd (let b : ⊥ = omega arith in b)
 holds_at (x ∷ xs) zero l = grind (arith, nat_tests)

@@ -1,10 +1,12 @@
 pub mod Walks
 pub mod Searches
+pub mod Numbered
 pub mod Lookups
 pub mod Keys
 pub mod RowsKept
 pub mod Words
 pub mod Renewals
+pub mod Holders
 pub mod Alike
 pub mod Selections
 pub mod Accepted

@@ -2,6 +2,7 @@
 use Rattle.std.proofs.Common.{◌≡◌, ℕ, ◌<◌, ◌≤◌, Bool, true, false, cond, not, ◌&&◌, ◌||◌, eqb, ltb, ◌≢◌, ◌⊎◌, List, [], ◌∷◌, map, length, set, Some, None, Ok, Option, unwrap_or, sym, refl, ap, ◌∙◌, subst, inl, inr, arith}
 use Rattle.std.proofs.lemmas.List.{get_or-map, length-map, get_or_past}
 use Rattle.std.proofs.lemmas.Bool.Decides.{nat_tests}
+use Rattle.std.specs.List.{list_any}
 use Rattle.std.proofs.lemmas.Bool.{cases_Bool, cases_eq, cases_lt, both_ways, and_parts, eqb-true, eq-eqb, ne_eqb, true≢false, not-false, or_parts, cond-true}
 use Rattle.packed.specs.Rising.{lookup}
 use Rattle.packed.proofs.Order.{has-insert}
@@ -17,24 +18,22 @@ use Rattle.rules.specs.declared.row.Flags.{Flags}
 use Rattle.rules.specs.declared.row.Kind.{Kind}
 use Rattle.rules.specs.declared.row.Kind.TheVariants.{Free, Global, UnitRow, RangeRow}
 use Rattle.rules.specs.declared.row.Row.{Row}
-use Rattle.rules.specs.declared.row.Sought.TheVariants.{UnitRowOf, RangeRowOf, RangeOver}
+use Rattle.rules.specs.declared.row.Sought.TheVariants.{FreeRow, UnitRowOf, RangeRowOf, RangeOver}
 use Rattle.rules.specs.declared.row.Standing.{Standing}
 use Rattle.rules.specs.declared.unit.Holder.TheVariants.{TheUnit, TheRow}
 use Rattle.rules.specs.declared.unit.LogicalUnit.{LogicalUnit}
-use Rattle.rules.specs.Calls.{Answer, refusal, left, said, after, answer}
-use Rattle.rules.specs.Commands.{create_refusal, created, new_unit, deleted, formatted, was_reset}
-use Rattle.rules.specs.Drive.{Drive}
+use Rattle.rules.specs.Calls.{refusal, left, said, after, Answer, answer}
+use Rattle.rules.specs.Commands.{create_checks, create_refusal, new_unit, created, deleted, formatted, was_reset}
+use Rattle.rules.specs.Drive.{Drive, row_of, kind_of, row_locked}
 use Rattle.rules.specs.FreshKeys.{fresh_keys, holders_of, unit_and_ranges}
 use Rattle.rules.specs.Laws.{has_block, block_key, FreshlyKeyed, SetByOwner}
-use Rattle.rules.specs.Methods.{row_of, kind_of, row_locked, assign_refusal, row_to_take, unit_row_assigned, range_row_assigned, assigned, deassign_checks, receiver, range_rows_remain, freed, given_up, set_range_checks, range_set, set_locks_checks, set_locks_refusal, locks_set, key_generated, erased, reactivate_checks, reactivated}
-use Rattle.rules.specs.MoreQuestions.{block_locked}
-use Rattle.rules.specs.Questions.{controlling_row, key_or}
-use Rattle.rules.specs.Rows.{blank, no_row, row, locked_for, locked, lock_enabled, relocked, is_free, with_serial, with_range, with_kind, with_flags, anew, unit_row_of, range_row_of, range_over, suits, lowest_row, is_there, is_free_there, row_under, any_row}
-use Rattle.rules.specs.Sessions.{owner, or_else, opening_refusal}
-use Rattle.rules.specs.Sound.{Sound, is_global}
+use Rattle.rules.specs.Methods.{assign_refusal, row_to_take, unit_row_assigned, range_row_assigned, assigned, range_rows_remain, deassign_checks, freed, given_up, unit_row_locked, set_range_checks, range_set, set_locks_checks, set_locks_refusal, locks_set, key_generated, erased, reactivate_checks, reactivated}
+use Rattle.rules.specs.Questions.{block_locked}
+use Rattle.rules.specs.Rows.{blank, locked_for, locked, lock_enabled, relocked, no_row, row, is_free, with_serial, with_range, with_flags, with_kind, anew, unit_row_of, range_row_of, range_over, suits, lowest_row, is_there, row_under, controlling_row, key_or}
+use Rattle.rules.specs.Sessions.{in_session, owner}
+use Rattle.rules.specs.Sound.{is_global, Sound}
 use Rattle.rules.specs.Units.{no_unit, exists, unit, with_unit, without_unit}
-use Rattle.vault.proofs.Checks.{all-passed}
-use Rattle.rules.proofs.Accepted.{create_checks, else-none}
+use Rattle.rules.proofs.Accepted.{opened, passed, passed-in}
 use Rattle.rules.proofs.Alike.{Alike, alike-renewed, alike-control}
 use Rattle.rules.proofs.Blocks.{key-is, control-is, control-other, control-global, key-new, key-given, renewed-key, under-global}
 use Rattle.rules.proofs.Lookups.{lookup-insert, lookup-remove, has-remove-other, has-remove-same}
@@ -110,12 +109,12 @@ module _ (access : Access) (n block : ℕ) where
     locks-other : controlling_row d.rows n block ≢ r → shut_to d ≡ true → shut_to (locks_set d r flags) ≡ false → ⊥
     locks-other ne t f = nothing d (locks_set d r flags) refl (locked-as d.rows (set d.rows r new) locks-control (ap (λ (y : Row). y.flags) (unwritten d.rows r new (controlling_row d.rows n block) ne))) t f
 
-  set-locks-opens : (d : Drive) (caller r : ℕ) (flags : Flags) → or_else (opening_refusal caller) (set_locks_refusal d caller r) ≡ None → shut_to d ≡ true → shut_to (locks_set d r flags) ≡ false → SetByOwner d n block (SetLocks caller r flags) (Ok Success)
+  set-locks-opens : (d : Drive) (caller r : ℕ) (flags : Flags) → in_session caller (set_locks_refusal d caller r) ≡ None → shut_to d ≡ true → shut_to (locks_set d r flags) ≡ false → SetByOwner d n block (SetLocks caller r flags) (Ok Success)
   set-locks-opens d caller r flags e t f = elim (cases_eq (controlling_row d.rows n block) r) [
     | inr other ↦ absurd (locks-other d r flags other t f)
     | inl same ↦
-        let p = all-passed (set_locks_checks d caller r) (else-none (opening_refusal caller) _ e) in
-        let o : caller ≡ owner r (row_of d r) = eqb-true caller (owner r (row_of d r)) (not-false _ p.1.1.1.0) in
+        let p = passed-in d (set_locks_checks d caller r) caller e in
+        let o : caller ≡ owner r (row_of d r) = eqb-true caller (owner r (row_of d r)) (not-false _ p.1.1.0) in
         record {
           caller = caller;
           flags = flags;
@@ -144,7 +143,7 @@ module _ (access : Access) (n block : ℕ) where
       ]
 
   -- no lock is enabled, so no block was locked
-  reactivate-opens : (d : Drive) (selection policy : ℕ) → Sound d → any_row (λ r. lock_enabled r.flags) d.rows ≡ false → shut_to d ≡ true → shut_to (reactivated d selection policy) ≡ false → ⊥
+  reactivate-opens : (d : Drive) (selection policy : ℕ) → Sound d → list_any (λ r. lock_enabled r.flags) d.rows ≡ false → shut_to d ≡ true → shut_to (reactivated d selection policy) ≡ false → ⊥
   reactivate-opens d selection policy h free t f =
       let b : has_block d n block ≡ true = there-after (reactivated d selection policy) f in
       both_ways (shut_to d) (ap (λ x. not x || block_locked d.rows access n block) b ∙ open_row (controlling_row d.rows n block)) t
@@ -162,8 +161,8 @@ module _ (access : Access) (n block : ℕ) where
 
   create-opens : (d : Drive) (k blocks : ℕ) → Sound d → Sound (created d k blocks) → create_refusal d k blocks ≡ None → shut_to d ≡ true → shut_to (created d k blocks) ≡ false → FreshlyKeyed d (created d k blocks) n block
   create-opens d k blocks h s e t f =
-      let p = all-passed (create_checks d k blocks) e in
-      let fresh : exists k d.units ≡ false = p.1.1.0 in
+      let p = passed d (create_checks d k blocks) e in
+      let fresh : exists k d.units ≡ false = p.1.0 in
       let u : LogicalUnit = new_unit d k blocks in
       let us = with_unit u d.units in
       let found = lookup-insert (λ (v : LogicalUnit). v.number) n u d.units fresh in
@@ -213,7 +212,7 @@ module _ (access : Access) (n block : ℕ) where
   not-global : (d : Drive) (h : Sound d) (r : ℕ) → is_global (kind_of d r) ≡ false → 0 < r
   not-global d h r e = not-row-0 d.units d.rows h.rows r e
 
-  unit-row-opens : (d : Drive) (k : ℕ) (standing : Standing) → Sound d → is_there (UnitRowOf k) d.rows ≡ false → is_free_there standing d.rows ≡ true → row_locked d 0 ≡ false
+  unit-row-opens : (d : Drive) (k : ℕ) (standing : Standing) → Sound d → is_there (UnitRowOf k) d.rows ≡ false → is_there (FreeRow standing) d.rows ≡ true → row_locked d 0 ≡ false
       → shut_to d ≡ true → shut_to (unit_row_assigned d k standing) ≡ false → ⊥
   unit-row-opens d k standing h none free top t f =
       let r = row_to_take d standing in
@@ -224,7 +223,7 @@ module _ (access : Access) (n block : ℕ) where
         | inl same ↦ not-open d t (there-after (unit_row_assigned d k standing) f) 0 (control-global d.units d.rows h.rows n block (ap (λ j. is_there (UnitRowOf j) d.rows) (sym same) ∙ none)) top
       ]
 
-  range-row-opens : (d : Drive) (k start len : ℕ) (standing : Standing) → Sound d → Sound (range_row_assigned d k start len standing) → is_free_there standing d.rows ≡ true
+  range-row-opens : (d : Drive) (k start len : ℕ) (standing : Standing) → Sound d → Sound (range_row_assigned d k start len standing) → is_there (FreeRow standing) d.rows ≡ true
       → shut_to d ≡ true → shut_to (range_row_assigned d k start len standing) ≡ false → FreshlyKeyed d (range_row_assigned d k start len standing) n block
   range-row-opens d k start len standing h s free t f =
       let r = row_to_take d standing in
@@ -362,33 +361,33 @@ module _ (access : Access) (n block : ℕ) where
   assign-opens : (d : Drive) (caller k start len : ℕ) (standing : Standing) → Sound d → Sound (assigned d k start len standing) → assign_refusal d caller k start len standing ≡ None
       → shut_to d ≡ true → shut_to (assigned d k start len standing) ≡ false → FreshlyKeyed d (assigned d k start len standing) n block
   assign-opens d caller k start len standing h s e t f =
-      let passed = branch-passed d caller k start len standing e in
+      let branch = branch-passed d caller k start len standing e in
       let chosen : Bool → Drive = λ b. cond b (range_row_assigned d k start len standing) (unit_row_assigned d k standing) in
       elim (cases_Bool (is_there (UnitRowOf k) d.rows)) [
         | inl u ↦
-            let q = passed true u in
+            let q = branch true u in
             subst (λ b. FreshlyKeyed d (chosen b) n block) (sym u) (range-row-opens d k start len standing h (subst (λ b. Sound (chosen b)) u s) (not-false _ q.1.1.1.1.0) t (subst (λ b. shut_to (chosen b) ≡ false) u f))
         | inr u ↦
-            let q = passed false u in
+            let q = branch false u in
             absurd (unit-row-opens d k standing h u (not-false _ q.1.1.1.0) q.1.1.0 t (subst (λ b. shut_to (chosen b) ≡ false) u f))
       ]
 
   left-opens : (d : Drive) (c : Call) → Sound d → Sound (left d c) → refusal d c ≡ None → shut_to d ≡ true → shut_to (left d c) ≡ false → FreshlyKeyed d (left d c) n block ⊎ SetByOwner d n block c (Ok (said d c))
-  left-opens d (Assign caller k start len standing) h s e t f = inl (assign-opens d caller k start len standing h s (else-none (opening_refusal caller) _ e) t f)
+  left-opens d (Assign caller k start len standing) h s e t f = inl (assign-opens d caller k start len standing h s (opened caller _ e) t f)
   left-opens d (Deassign caller r keep) h s e t f =
-      let p = all-passed (deassign_checks d caller r keep) (else-none (opening_refusal caller) _ e) in
-      absurd (given-up-opens d r keep (kind_of d r) h refl p.1.1.1.1.1.1.1.0 (or_parts _ _ p.1.1.1.1.1.1.1.1.0).0 t f)
+      let p = passed-in d (deassign_checks d caller r keep) caller e in
+      absurd (given-up-opens d r keep (kind_of d r) h refl p.1.1.1.1.1.1.0 (or_parts _ _ p.1.1.1.1.1.1.1.0).0 t f)
   left-opens d (SetRange caller r start len) h s e t f =
-      let p = all-passed (set_range_checks d caller r start len) (else-none (opening_refusal caller) _ e) in
-      let q = range-parts (kind_of d r) (not-false _ p.1.1.1.0) in
-      let o = or_parts (row_locked d (receiver d.rows (kind_of d r))) (row_locked d r) p.1.1.1.1.1.1.1.0 in
-      absurd (set-range-opens d r start len q.0 q.1 q.2 q.3 h s q.4 o.1 (subst (λ k. row_locked d (receiver d.rows k) ≡ false) q.4 o.0) t f)
+      let p = passed-in d (set_range_checks d caller r start len) caller e in
+      let q = range-parts (kind_of d r) (not-false _ p.1.1.0) in
+      let o = or_parts (row_locked d r) (unit_row_locked d (kind_of d r)) p.1.1.1.1.1.1.0 in
+      absurd (set-range-opens d r start len q.0 q.1 q.2 q.3 h s q.4 o.0 (subst (λ k. unit_row_locked d k ≡ false) q.4 o.1) t f)
   left-opens d (SetLocks caller r flags) h s e t f = inr (set-locks-opens d caller r flags e t f)
   left-opens d (GenKey caller r) h s e t f = absurd (alike-opens d (key_generated d r) (alike-renewed d (holders_of d r (kind_of d r))) t f)
   left-opens d (Erase caller r) h s e t f = inl (erase-opens d r h s t f)
   left-opens d (Reactivate caller selection policy) h s e t f =
-      let p = all-passed (reactivate_checks d caller selection policy) (else-none (opening_refusal caller) _ e) in
-      absurd (reactivate-opens d selection policy h p.1.1.1.0 t f)
+      let p = passed-in d (reactivate_checks d caller selection policy) caller e in
+      absurd (reactivate-opens d selection policy h p.1.1.0 t f)
   left-opens d (Create k blocks) h s e t f = inl (create-opens d k blocks h s e t f)
   left-opens d (Delete k) h s e t f = absurd (delete-opens d k h t f)
   left-opens d (Format k) h s e t f = absurd (alike-opens d (formatted d k) (alike-renewed d (unit_and_ranges d k)) t f)

@@ -1,7 +1,7 @@
 -- Elements that have a number each: what is found after one is put in, taken out or changed.
-use Rattle.std.proofs.Common.{◌≡◌, ℕ, suc, ◌<◌, Bool, true, false, cond, ◌&&◌, ◌||◌, eqb, ltb, leb, ◌≢◌, List, [], ◌∷◌, length, get_or, set, Some, None, unwrap_or, sym, refl, ap, ◌∙◌, inl, inr, arith}
+use Rattle.std.proofs.Common.{◌≡◌, ℕ, zero, suc, ◌<◌, ◌≤◌, Bool, true, false, cond, ◌&&◌, ◌||◌, eqb, ltb, leb, ◌≢◌, List, [], ◌∷◌, length, get_or, set, Some, None, unwrap_or, sym, refl, ap, ◌∙◌, inl, inr, arith}
 use Rattle.std.proofs.lemmas.Bool.Decides.{nat_tests}
-use Rattle.std.proofs.lemmas.Bool.{both_ways, eqb-true, true≢false}
+use Rattle.std.proofs.lemmas.Bool.{both_ways, and_parts, leb-true, eqb-true, eq-eqb, ne_eqb, true≢false}
 use Rattle.std.specs.Option.{option_map}
 use Rattle.std.specs.List.{AllByRecursion}
 use Rattle.packed.specs.First.{first}
@@ -68,6 +68,23 @@ module _ {A : Type 0} (key : A → ℕ) where
       go : (b : Bool) → eqb (key x) k ≡ b → (has key k xs ≡ true → key (unwrap_or (lookup key k xs) d) ≡ k) → key (unwrap_or (cond b (Some x) (lookup key k xs)) d) ≡ k
       go true e ih = eqb-true (key x) k e
       go false e ih = ih (let r : has key k xs ≡ true = grind (arith, nat_tests) in r)
+
+  rises-from : (low : ℕ) (xs : List A) (i : ℕ) (d : A) → rises key low xs ≡ true → i < length xs → low ≤ key (get_or xs i d)
+  unfolding rises
+  rises-from low [] i d r l = absurd (let b : ⊥ = omega arith in b)
+  rises-from low (x ∷ xs) zero d r l = leb-true low (key x) (and_parts (leb low (key x)) _ r).0
+  rises-from low (x ∷ xs) (suc i) d r l = let p = and_parts (leb low (key x)) _ r in let h = rises-from (suc (key x)) xs i d p.1 (omega arith) in let g = leb-true low (key x) p.0 in omega arith
+
+  -- each is found by its own number
+  pub lookup-at : (low : ℕ) (xs : List A) (i : ℕ) (d : A) → rises key low xs ≡ true → i < length xs → lookup key (key (get_or xs i d)) xs ≡ Some (get_or xs i d)
+  unfolding lookup rises
+  lookup-at low [] i d r l = absurd (let b : ⊥ = omega arith in b)
+  lookup-at low (x ∷ xs) zero d r l = ap (λ b. cond b (Some x) (lookup key (key x) xs)) (eq-eqb (key x) (key x) refl)
+  lookup-at low (x ∷ xs) (suc i) d r l =
+      let p = (and_parts (leb low (key x)) _ r).1 in
+      let h = rises-from (suc (key x)) xs i d p (omega arith) in
+      ap (λ b. cond b (Some x) (lookup key (key (get_or xs i d)) xs)) (ne_eqb (key x) (key (get_or xs i d)) (λ e. omega arith))
+      ∙ lookup-at (suc (key x)) xs i d p (omega arith)
 
   -- what holds of each holds of the one that is found
   pub all_lookup : (P : A → Type 0) (k : ℕ) (xs : List A) (d : A) → has key k xs ≡ true → AllByRecursion P xs → P (unwrap_or (lookup key k xs) d)

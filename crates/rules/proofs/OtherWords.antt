@@ -1,9 +1,11 @@
 -- What some of the definitions come to, in other words.
-use Rattle.std.proofs.Common.{◌≡◌, ℕ, zero, suc, ◌+◌, ◌/◌, ◌%◌, ◌^◌, ◌<◌, ◌≤◌, max, Bool, true, false, cond, not, ◌||◌, eqb, ltb, leb, List, [], ◌∷◌, length, Some, None, Ok, filter, Option, sym, refl, ap, ◌∙◌, subst, inl, inr, div-one, add-one, arith, shr_lt}
+use Rattle.std.proofs.Common.{◌≡◌, ℕ, zero, suc, ◌+◌, ◌/◌, ◌%◌, ◌^◌, ◌<◌, ◌≤◌, max, Bool, true, false, cond, not, ◌||◌, eqb, ltb, leb, List, [], ◌∷◌, map, length, Some, None, Ok, filter, Option, sym, refl, ap, ◌∙◌, subst, inl, inr, div-one, add-one, arith, shr_lt}
 use native.Mathlib.Nat.{div-div-eq-div-mul, pow-succ'}
 use lib.Count.{ones, ones_in, ones_step}
 use Rattle.std.proofs.lemmas.Bool.Decides.{nat_tests}
 use Rattle.std.proofs.lemmas.Bool.{cases_eq, leb-false, eqb-true, eqb-false, or_parts}
+use Rattle.std.specs.List.{find, range_with_len}
+use Rattle.std.specs.Option.{option_or}
 use Rattle.vault.specs.Checks as checks
 use Rattle.vault.specs.Checks.{first_of, unless}
 use Rattle.rules.specs.declared.call.Accepted.TheVariants.{SingleUserRows}
@@ -18,14 +20,12 @@ use Rattle.rules.specs.Drive.{Drive}
 use Rattle.rules.specs.Laws.{point}
 use Rattle.rules.specs.Meanings.{SharingIsACommonBlock, DeniedAtFirstLockedBlock, GrantedWhereNoneLocked, single_user_rows, ReactivateCountsRows}
 use Rattle.rules.specs.Methods.{reactivate_checks, selected, reactivated_row, reactivated}
-use Rattle.rules.specs.MoreQuestions.{block_locked, first_from, denied_at}
-use Rattle.rules.specs.Questions.{controlling_row}
-use Rattle.rules.specs.Rows.{blank, is_single_user, each_row_by}
-use Rattle.rules.specs.Sessions.{or_else, opening_refusal}
+use Rattle.rules.specs.Questions.{block_locked, first_locked, denied_at}
+use Rattle.rules.specs.Rows.{blank, is_single_user, numbered, controlling_row}
 use Rattle.rules.specs.Sound.{Sound}
 use Rattle.rules.specs.Units.{exists, unit}
-use Rattle.vault.proofs.Checks.{all-passed}
-use Rattle.rules.proofs.Accepted.{else-none}
+use Rattle.rules.proofs.Accepted.{neither, passed-in}
+use Rattle.rules.proofs.Numbered.{each_row_by, each-more}
 use Rattle.rules.proofs.Whole.{stays-sound, next-point, answered}
 
 pub sharing-is-a-common-block : SharingIsACommonBlock
@@ -33,13 +33,12 @@ sharing-is-a-common-block s l a m = ((λ e. (max s a, grind (arith, nat_tests), 
 
 -- ---- the first that passes
 module _ (test : ℕ → Bool) where
-  first_found : (from count b : ℕ) → first_from test from count ≡ Some b → (from ≤ b) × (b < from + count) × (test b ≡ true) × ((c : ℕ) → from ≤ c → c < b → test c ≡ false)
-  unfolding first_from
+  first_found : (from count b : ℕ) → find test (range_with_len from count) ≡ Some b → (from ≤ b) × (b < from + count) × (test b ≡ true) × ((c : ℕ) → from ≤ c → c < b → test c ≡ false)
   first_found from zero b e = absurd cc
-  first_found from (suc count) b e = go (test from) refl e (first_found (suc from) count b)
+  first_found from (suc count) b e = go (test from) refl e (first_found (from + 1) count b)
     where
-      go : (t : Bool) → test from ≡ t → cond t (Some from) (first_from test (suc from) count) ≡ Some b
-          → (first_from test (suc from) count ≡ Some b → (suc from ≤ b) × (b < suc from + count) × (test b ≡ true) × ((c : ℕ) → suc from ≤ c → c < b → test c ≡ false))
+      go : (t : Bool) → test from ≡ t → cond t (Some from) (find test (range_with_len (from + 1) count)) ≡ Some b
+          → (find test (range_with_len (from + 1) count) ≡ Some b → (from + 1 ≤ b) × (b < from + 1 + count) × (test b ≡ true) × ((c : ℕ) → from + 1 ≤ c → c < b → test c ≡ false))
           → (from ≤ b) × (b < from + suc count) × (test b ≡ true) × ((c : ℕ) → from ≤ c → c < b → test c ≡ false)
       go true t e ih = let q : from ≡ b = cc in (omega arith, omega arith, ap test (sym q) ∙ t, λ c l g. absurd (let y : ⊥ = omega arith in y))
       go false t e ih =
@@ -53,13 +52,12 @@ module _ (test : ℕ → Bool) where
             ],
           )
 
-  none_found : (from count : ℕ) → first_from test from count ≡ None → (c : ℕ) → from ≤ c → c < from + count → test c ≡ false
-  unfolding first_from
+  none_found : (from count : ℕ) → find test (range_with_len from count) ≡ None → (c : ℕ) → from ≤ c → c < from + count → test c ≡ false
   none_found from zero e c l g = absurd (let y : ⊥ = omega arith in y)
-  none_found from (suc count) e c l g = go (test from) refl e (none_found (suc from) count)
+  none_found from (suc count) e c l g = go (test from) refl e (none_found (from + 1) count)
     where
-      go : (t : Bool) → test from ≡ t → cond t (Some from) (first_from test (suc from) count) ≡ None
-          → (first_from test (suc from) count ≡ None → (c : ℕ) → suc from ≤ c → c < suc from + count → test c ≡ false) → test c ≡ false
+      go : (t : Bool) → test from ≡ t → cond t (Some from) (find test (range_with_len (from + 1) count)) ≡ None
+          → (find test (range_with_len (from + 1) count) ≡ None → (c : ℕ) → from + 1 ≤ c → c < from + 1 + count → test c ≡ false) → test c ≡ false
       go true t e ih = absurd cc
       go false t e ih = elim (cases_eq c from) [
         | inl same ↦ ap test same ∙ t
@@ -67,7 +65,7 @@ module _ (test : ℕ → Bool) where
       ]
 
 -- the checks before it deny no block
-before-it : (a b c : Bool) (o : Option Cause) (block r : ℕ) → or_else (first_of ((a, Closed) ∷ (b, NoSuchUnit) ∷ (c, BlockOutOfRange) ∷ [])) o ≡ Some (BlockLocked block r) → o ≡ Some (BlockLocked block r)
+before-it : (a b c : Bool) (o : Option Cause) (block r : ℕ) → option_or (first_of ((a, Closed) ∷ (b, NoSuchUnit) ∷ (c, BlockOutOfRange) ∷ [])) o ≡ Some (BlockLocked block r) → o ≡ Some (BlockLocked block r)
 before-it true b c o block r e = absurd cc
 before-it false true c o block r e = absurd cc
 before-it false false true o block r e = absurd cc
@@ -83,21 +81,23 @@ granted-parts rows n (Some b) e = absurd cc
 
 pub denied-at-first-locked-block : DeniedAtFirstLockedBlock
 denied-at-first-locked-block d access n start count block r e =
-    let found = first_from (block_locked d.rows access n) start count in
+    let found = first_locked d.rows access n start count in
     let p = denied-parts d.rows n found block r (before-it d.closed (not (exists n d.units)) (eqb count 0 || ltb (unit n d.units).blocks (start + count)) (denied_at d.rows n found) block r e) in
     let q = first_found (block_locked d.rows access n) start count block p.0 in
     record { asked = (q.0, q.1); shut = q.2; row_is = p.1; first = q.3 }
 
 pub granted-where-none-locked : GrantedWhereNoneLocked
 granted-where-none-locked d access n start count e =
-    let found = first_from (block_locked d.rows access n) start count in
-    none_found (block_locked d.rows access n) start count (granted-parts d.rows n found (else-none _ (denied_at d.rows n found) e))
+    let found = first_locked d.rows access n start count in
+    none_found (block_locked d.rows access n) start count (granted-parts d.rows n found (neither _ (denied_at d.rows n found) e))
 
 -- ---- rows by the bits of a selection
 each-as : (f g : ℕ → Row → Row) → ((n : ℕ) (r : Row) → f n r ≡ g n r) → (rows : List Row) → each_row_by f rows ≡ each_row_by g rows
-unfolding each_row_by
-each-as f g e [] = refl
-each-as f g e (r ∷ rs) = ap (λ x. x ∷ each_row_by (λ n. f (suc n)) rs) (e 0 r) ∙ ap (λ l. g 0 r ∷ l) (each-as (λ n. f (suc n)) (λ n. g (suc n)) (λ n. e (suc n)) rs)
+each-as f g e rows = go (numbered rows)
+  where
+    go : (es : List (ℕ × Row)) → map (λ entry. f entry.0 entry.1) es ≡ map (λ entry. g entry.0 entry.1) es
+    go [] = refl
+    go (x ∷ xs) = ap (λ r. r ∷ map (λ entry. f entry.0 entry.1) xs) (e x.0 x.1) ∙ ap (λ rs. g x.0 x.1 ∷ rs) (go xs)
 
 selected-half : (selection r : ℕ) → selected selection (suc r) ≡ selected (selection / 2) r
 selected-half selection r = ap (λ m. eqb (m % 2) 1) (ap (λ m. selection / m) (pow-succ' 2 r) ∙ sym (div-div-eq-div-mul selection 2 (2 ^ r)))
@@ -106,12 +106,13 @@ abbrev singles : List Row → List Row
 singles rows = filter (λ r. is_single_user r.standing) rows
 
 count-rows : (rows : List Row) (selection : ℕ) → selection < 2 ^ length rows → length (singles (each_row_by (reactivated_row selection) rows)) ≡ ones selection
-unfolding each_row_by ones ones_in
+unfolding ones ones_in
 count-rows [] selection l = let z : selection ≡ 0 = omega arith in ap ones (sym z)
 count-rows (r ∷ rs) selection l =
     let less : selection / 2 ^ 1 < 2 ^ length rs = shr_lt (length rs) 1 (rw add-one l) in
     let same = each-as (λ n. reactivated_row selection (suc n)) (reactivated_row (selection / 2)) (λ n x. ap (λ b. record { kind = x.kind; standing = cond b SingleUser Shared; flags = blank }) (selected-half selection n)) rs in
-    go (selected selection 0) refl
+    ap (λ xs. length (singles xs)) (each-more (reactivated_row selection) r rs)
+    ∙ go (selected selection 0) refl
     (ap (λ xs. length (singles xs)) same ∙ count-rows rs (selection / 2) less) (ones_step selection)
   where
     bit : selected selection 0 ≡ eqb (selection % 2) 1
@@ -136,7 +137,7 @@ reactivate-counts-rows d b calls k caller selection policy count lt is told =
         → single_user_rows (unless o p (reactivated p selection policy)) ≡ count
     go p h (Some cause) r q = absurd cc
     go p h None r q =
-        let passed = all-passed (reactivate_checks p caller selection policy) (else-none (opening_refusal caller) _ r) in
-        let small = leb-false (2 ^ 17) selection (or_parts (leb (2 ^ 17) selection) (ltb 1 policy) passed.1.1.0).0 in
+        let checked = passed-in p (reactivate_checks p caller selection policy) caller r in
+        let small = leb-false (2 ^ 17) selection (or_parts (leb (2 ^ 17) selection) (ltb 1 policy) checked.1.0).0 in
         let same : ones selection ≡ count = cc in
         count-rows p.rows selection (subst (λ n. selection < 2 ^ n) (sym h.rows.seventeen) small) ∙ same

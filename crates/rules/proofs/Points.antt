@@ -12,14 +12,13 @@ use Rattle.rules.specs.declared.row.Kind.TheVariants.{Free, Global, UnitRow, Ran
 use Rattle.rules.specs.declared.row.Row.{Row}
 use Rattle.rules.specs.declared.row.Sought.TheVariants.{UnitRowOf}
 use Rattle.rules.specs.declared.unit.LogicalUnit.{LogicalUnit}
-use Rattle.rules.specs.Drive.{Drive}
-use Rattle.rules.specs.Laws.{RangesInOrder, OneKeyEach, range_rows}
-use Rattle.rules.specs.Methods.{kind_of}
-use Rattle.rules.specs.Questions.{key_or}
-use Rattle.rules.specs.Rows.{row, is_range_row, covers, unit_row_of, range_over}
-use Rattle.rules.specs.Sound.{Sound, unit_fits, row_fits, serial_of, row_key}
+use Rattle.rules.specs.Drive.{Drive, kind_of}
+use Rattle.rules.specs.Laws.{RangesInOrder, range_rows, OneKeyEach}
+use Rattle.rules.specs.Rows.{row, is_range_row, covers, unit_row_of, range_over, key_or}
+use Rattle.rules.specs.Sound.{unit_fits, row_fits, serial_of, row_key, Sound}
 use Rattle.rules.specs.Units.{valid}
 use Rattle.rules.proofs.Blocks.{unit-row-is}
+use Rattle.rules.proofs.Holders.{key-held, key-different, key-owned}
 use Rattle.rules.proofs.RowsKept.{fits-exists, fits_under, fits-inside, fits-key}
 use Rattle.rules.proofs.Searches.{at_there}
 
@@ -80,4 +79,10 @@ keys_of d h =
     ap length h.keys.held ∙ length-words (map serial_of d.units) (map row_key d.rows)
     ∙ omega (arith, length-unit-keys d.numbering d.units h.units.each, length-row-keys d.units d.rows d.rows h.rows.each) in
     let fits = room d.vault h.keys.meaning in
-    record { held = h.keys.held; different = h.keys.apart; one_each = count; in_all = omega arith }
+    record {
+      held = key-held d h;
+      different = key-different d h;
+      nothing_else = key-owned d h;
+      counted = count;
+      in_all = omega arith;
+    }

@@ -1,5 +1,5 @@
 -- Fresh keys: a drive stays in order, and the vault refuses nothing.
-use Rattle.std.proofs.Common.{◌≡◌, ℕ, suc, ◌+◌, ◌<◌, ◌≤◌, Bool, true, false, cond, not, ◌&&◌, ◌||◌, eqb, ltb, List, [], ◌∷◌, map, length, get_or, set, Some, None, filter, Option, unwrap_or, sym, refl, ap, ◌∙◌, arith}
+use Rattle.std.proofs.Common.{◌≡◌, ℕ, suc, ◌+◌, ◌<◌, ◌≤◌, Bool, true, false, cond, not, ◌&&◌, ◌||◌, eqb, ltb, List, [], ◌∷◌, map, length, get_or, set, Some, None, filter, Option, unwrap_or, sym, refl, ap, ◌∙◌, subst, arith}
 use Rattle.std.proofs.ByRecursion.{All-weaker, All-map, all_kept_by}
 use Rattle.std.proofs.lemmas.List.{length-set}
 use Rattle.std.proofs.lemmas.Bool.Decides.{nat_tests}
@@ -20,15 +20,15 @@ use Rattle.rules.specs.declared.unit.Holder.{Holder}
 use Rattle.rules.specs.declared.unit.Holder.TheVariants.{TheUnit, TheRow}
 use Rattle.rules.specs.declared.unit.LogicalUnit.{LogicalUnit}
 use Rattle.rules.specs.Drive.{Drive}
-use Rattle.rules.specs.FreshKeys.{HasKey, key_of, fresh_key, fresh_keys, units_under_global, holders_of, unit_and_ranges}
+use Rattle.rules.specs.FreshKeys.{key_of, HasKey, fresh_key, fresh_keys, units_under_global, holders_of, unit_and_ranges}
 use Rattle.rules.specs.Requests.{NoneRefused, swaps}
-use Rattle.rules.specs.Questions.{key_or}
-use Rattle.rules.specs.Rows.{row, is_free, is_range_row, is_single_user, with_serial, with_kind, unit_row_of, range_row_of, range_over, suits, is_there, all_rows}
-use Rattle.rules.specs.Sound.{Sound, SoundUnits, unit_fits, is_global, row_fits, serials}
-use Rattle.rules.specs.Units.{no_unit, valid, exists, unit, with_key}
+use Rattle.rules.specs.Rows.{row, is_free, is_range_row, with_serial, is_single_user, with_kind, unit_row_of, range_row_of, range_over, suits, is_there, all_rows, key_or}
+use Rattle.rules.specs.Sound.{unit_fits, SoundUnits, is_global, row_fits, serials, Sound}
+use Rattle.rules.specs.Units.{valid, no_unit, exists, unit, with_key}
 use Rattle.rules.proofs.Keys.{keys-as, swap-capacity, swap-done, swap-keys}
 use Rattle.rules.proofs.Lookups.{place_of, change-found, lookup-change, has-change, rises-change, length-change, all-change, all_lookup}
 use Rattle.rules.proofs.RowsKept.{any_same, within, in_table, no_other, fits-exists, fits_under, fits-inside, fits-key, rows-range, rows-units}
+use Rattle.rules.proofs.Numbered.{all-more}
 use Rattle.rules.proofs.Searches.{set-alike}
 use Rattle.rules.proofs.Words.{words_long, unit-word, unit-written, row_word, row_written}
 
@@ -216,7 +216,7 @@ valid-of-row d h r (RangeRow u s l k) e = (ap is_range_row e, tt)
 all-rows : (w : Sought) (rows : List Row) → AllByRecursion (λ r. suits w (row r rows) ≡ true) (all_rows w rows)
 unfolding all_rows
 all-rows w [] = tt
-all-rows w (x ∷ xs) = go (suits w x) refl (All-map (λ r. suits w (row r (x ∷ xs)) ≡ true) suc (all_rows w xs) (all-rows w xs))
+all-rows w (x ∷ xs) = subst (AllByRecursion (λ r. suits w (row r (x ∷ xs)) ≡ true)) (sym (all-more w x xs)) (go (suits w x) refl (All-map (λ r. suits w (row r (x ∷ xs)) ≡ true) suc (all_rows w xs) (all-rows w xs)))
   where
     go : (b : Bool) → suits w x ≡ b → AllByRecursion (λ r. suits w (row r (x ∷ xs)) ≡ true) (map suc (all_rows w xs)) → AllByRecursion (λ r. suits w (row r (x ∷ xs)) ≡ true) (cond b (0 ∷ map suc (all_rows w xs)) (map suc (all_rows w xs)))
     go true e a = (e, a)

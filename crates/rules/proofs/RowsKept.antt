@@ -2,6 +2,7 @@
 use Rattle.std.proofs.Common.{◌≡◌, ℕ, zero, suc, ◌+◌, ◌<◌, Bool, true, false, ◌&&◌, ◌||◌, eqb, ltb, leb, ◌≢◌, List, [], ◌∷◌, length, set, is_some, sym, refl, ap, ◌∙◌, inl, inr, arith}
 use Rattle.std.proofs.lemmas.Bool.Decides.{nat_tests}
 use Rattle.std.proofs.lemmas.List.{length-set, get_or_past}
+use Rattle.std.specs.List.{list_any}
 use Rattle.std.proofs.lemmas.Bool.{cases_Bool, cases_lt, both_ways, and_parts, and_from, eqb-true, true≢false}
 use Rattle.rules.specs.declared.row.Kind.{Kind}
 use Rattle.rules.specs.declared.row.Kind.TheVariants.{Free, Global, UnitRow, RangeRow}
@@ -9,27 +10,25 @@ use Rattle.rules.specs.declared.row.Row.{Row}
 use Rattle.rules.specs.declared.row.Sought.{Sought}
 use Rattle.rules.specs.declared.row.Sought.TheVariants.{UnitRowOf, RangeOver}
 use Rattle.rules.specs.declared.unit.LogicalUnit.{LogicalUnit}
-use Rattle.rules.specs.Rows.{blank, no_row, row, is_free, covers, unit_row_of, range_over, range_sharing, suits, lowest_row, is_there, any_row}
-use Rattle.rules.specs.Sound.{SoundRows, AtMostOne, is_global, row_fits}
+use Rattle.rules.specs.Rows.{blank, no_row, row, is_free, covers, unit_row_of, range_over, range_sharing, suits, lowest_row, is_there}
+use Rattle.rules.specs.Sound.{is_global, row_fits, AtMostOne, SoundRows}
 use Rattle.rules.specs.Units.{exists, unit}
 use Rattle.rules.proofs.Searches.{first-same, missed, not_there, there, there-kept, one_kept, each_row, unwritten}
 
 -- ---- a test of every row
-pub any_same : (test : Row → Bool) (xs ys : List Row) → length xs ≡ length ys → ((i : ℕ) → test (row i xs) ≡ test (row i ys)) → any_row test xs ≡ any_row test ys
-unfolding any_row
+pub any_same : (test : Row → Bool) (xs ys : List Row) → length xs ≡ length ys → ((i : ℕ) → test (row i xs) ≡ test (row i ys)) → list_any test xs ≡ list_any test ys
 any_same test [] [] n e = refl
 any_same test [] (y ∷ ys) n e = absurd (let b : ⊥ = omega arith in b)
 any_same test (x ∷ xs) [] n e = absurd (let b : ⊥ = omega arith in b)
-any_same test (x ∷ xs) (y ∷ ys) n e = ap (λ b. b || any_row test xs) (e 0) ∙ ap (λ b. test y || b) (any_same test xs ys (omega arith) (λ i. e (suc i)))
+any_same test (x ∷ xs) (y ∷ ys) n e = ap (λ b. b || list_any test xs) (e 0) ∙ ap (λ b. test y || b) (any_same test xs ys (omega arith) (λ i. e (suc i)))
 
-pub any_none : (test : Row → Bool) (rows : List Row) → any_row test rows ≡ false → (i : ℕ) → i < length rows → test (row i rows) ≡ false
-unfolding any_row
+pub any_none : (test : Row → Bool) (rows : List Row) → list_any test rows ≡ false → (i : ℕ) → i < length rows → test (row i rows) ≡ false
 any_none test [] f i l = absurd (let b : ⊥ = omega arith in b)
 any_none test (x ∷ xs) f zero l = grind (arith, nat_tests)
-any_none test (x ∷ xs) f (suc i) l = any_none test xs (let r : any_row test xs ≡ false = grind (arith, nat_tests) in r) i (omega arith)
+any_none test (x ∷ xs) f (suc i) l = any_none test xs (let r : list_any test xs ≡ false = grind (arith, nat_tests) in r) i (omega arith)
 
-pub any_at : (test : Row → Bool) (rows : List Row) (i : ℕ) → i < length rows → test (row i rows) ≡ true → any_row test rows ≡ true
-any_at test rows i l t = elim (cases_Bool (any_row test rows)) [ inl e ↦ e | inr f ↦ absurd (both_ways (test (row i rows)) (any_none test rows f i l) t) ]
+pub any_at : (test : Row → Bool) (rows : List Row) (i : ℕ) → i < length rows → test (row i rows) ≡ true → list_any test rows ≡ true
+any_at test rows i l t = elim (cases_Bool (list_any test rows)) [ inl e ↦ e | inr f ↦ absurd (both_ways (test (row i rows)) (any_none test rows f i l) t) ]
 
 -- ---- kinds and searches
 -- a range that shares no block with another does not cover what that one covers

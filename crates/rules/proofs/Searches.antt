@@ -8,9 +8,7 @@ use Rattle.packed.proofs.Search.{found_within, found-passes, when-absent}
 use Rattle.rules.specs.declared.row.Row.{Row}
 use Rattle.rules.specs.declared.row.Sought.{Sought}
 use Rattle.rules.specs.declared.row.Sought.TheVariants.{UnitRowOf, RangeOver}
-use Rattle.rules.specs.declared.row.Standing.{Standing}
-use Rattle.rules.specs.Questions.{controlling_row}
-use Rattle.rules.specs.Rows.{no_row, row, suits, lowest_row, is_there, lowest_free, free_of, is_free_there, row_under}
+use Rattle.rules.specs.Rows.{no_row, row, suits, lowest_row, is_there, row_under, controlling_row}
 use Rattle.rules.specs.Sound.{AtMostOne}
 
 -- what is found or not, with the equation
@@ -70,13 +68,6 @@ module _ (w : Sought) (rows : List Row) where
     | inl p ↦ absurd (both_ways (suits w (row p.0 rows)) (n p.0 (hit-within p.0 p.1)) (hit p.0 p.1))
     | inr e ↦ e
   ]
-
--- a free row that is there
-pub at-free : (standing : Standing) (rows : List Row) → is_free_there standing rows ≡ true → (i : ℕ) × (i < length rows) × (free_of standing (row i rows) ≡ true) × (lowest_free standing rows ≡ Some i)
-at-free standing rows t = elim (cases-option (lowest_free standing rows)) [
-  | inl p ↦ (p.0, found_within (λ r. free_of standing r) rows p.0 p.1, found-passes (λ r. free_of standing r) rows p.0 p.1 no_row, p.1)
-  | inr n ↦ absurd (both_ways (is_free_there standing rows) (ap is_some n) t)
-]
 
 -- ---- one row is written
 module _ (rows : List Row) (r : ℕ) (x : Row) where

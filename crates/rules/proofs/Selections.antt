@@ -1,28 +1,10 @@
--- Rows made by their numbers, and the bits of a selection.
-use Rattle.std.proofs.Common.{◌≡◌, ℕ, zero, suc, ◌/◌, ◌%◌, ◌^◌, ◌<◌, true, eqb, ◌≢◌, List, [], ◌∷◌, map, length, sym, refl, ap, ◌∙◌, inl, inr, div-one, add-one, arith, shr_lt}
+-- The bits of a selection.
+use Rattle.std.proofs.Common.{◌≡◌, ℕ, zero, suc, ◌/◌, ◌%◌, ◌^◌, ◌<◌, true, eqb, ◌≢◌, List, [], ◌∷◌, map, sym, refl, ap, ◌∙◌, inl, inr, div-one, add-one, arith, shr_lt}
 use native.Mathlib.Nat.{div-div-eq-div-mul, pow-succ'}
 use Rattle.std.proofs.lemmas.Bool.{cases_Bool, eqb-false}
 use Rattle.rules.specs.declared.row.Row.{Row}
 use Rattle.rules.specs.Methods.{selected}
-use Rattle.rules.specs.Rows.{row, each_row_by}
-
-pub length-each : (make : ℕ → Row → Row) (rows : List Row) → length (each_row_by make rows) ≡ length rows
-unfolding each_row_by
-length-each make [] = refl
-length-each make (r ∷ rs) = ap suc (length-each (λ n. make (suc n)) rs)
-
-pub row-each : (make : ℕ → Row → Row) (rows : List Row) (i : ℕ) → i < length rows → row i (each_row_by make rows) ≡ make i (row i rows)
-unfolding each_row_by
-row-each make [] i l = absurd (let b : ⊥ = omega arith in b)
-row-each make (r ∷ rs) zero l = refl
-row-each make (r ∷ rs) (suc i) l = row-each (λ n. make (suc n)) rs i (omega arith)
-
--- what each row keeps
-pub each-alike : {X : Type 0} (f : Row → X) (make : ℕ → Row → Row) → ((n : ℕ) (r : Row) → f (make n r) ≡ f r) → (rows : List Row) (i : ℕ) → f (row i (each_row_by make rows)) ≡ f (row i rows)
-unfolding each_row_by
-each-alike f make same [] i = refl
-each-alike f make same (r ∷ rs) zero = same 0 r
-each-alike f make same (r ∷ rs) (suc i) = each-alike f (λ n. make (suc n)) (λ n. same (suc n)) rs i
+use Rattle.rules.specs.Rows.{row}
 
 pub map-alike : {X : Type 0} (f : Row → X) (make : Row → Row) → ((r : Row) → f (make r) ≡ f r) → (rows : List Row) (i : ℕ) → f (row i (map make rows)) ≡ f (row i rows)
 map-alike f make same [] i = refl

@@ -3,6 +3,7 @@ use Rattle.std.proofs.Common.{◌≡◌, ℕ, suc, ◌+◌, ◌^◌, ◌<◌, Bo
 use Rattle.std.proofs.lemmas.List.{get_or-map, length-set, length-map, set-get_or, get_or_past}
 use Rattle.std.proofs.lemmas.Bool.Decides.{nat_tests}
 use Rattle.std.proofs.lemmas.Bool.{cases_Bool, cases_lt, both_ways, and_parts, and_from, ltb-true, ltb-false, leb-false, lt-ltb, le-leb, eqb-true, eqb-false, not-false}
+use Rattle.std.specs.List.{list_any}
 use Rattle.packed.specs.Rising.{lookup}
 use Rattle.packed.proofs.Order.{has-insert, length-insert, length-remove, rises-insert, rises-remove}
 use Rattle.vault.specs.Kinds.{can_be_capacity}
@@ -11,28 +12,27 @@ use Rattle.rules.specs.declared.row.Flags.{Flags}
 use Rattle.rules.specs.declared.row.Kind.{Kind}
 use Rattle.rules.specs.declared.row.Kind.TheVariants.{Free, Global, UnitRow, RangeRow}
 use Rattle.rules.specs.declared.row.Row.{Row}
-use Rattle.rules.specs.declared.row.Sought.TheVariants.{UnitRowOf, RangeRowOf, RangeSharing}
+use Rattle.rules.specs.declared.row.Sought.TheVariants.{FreeRow, UnitRowOf, RangeRowOf, RangeSharing}
 use Rattle.rules.specs.declared.row.Standing.{Standing}
 use Rattle.rules.specs.declared.row.Standing.TheVariants.{Shared, SingleUser}
 use Rattle.rules.specs.declared.unit.Holder.TheVariants.{TheUnit}
 use Rattle.rules.specs.declared.unit.LogicalUnit.{LogicalUnit}
-use Rattle.rules.specs.Commands.{create_refusal, created, new_unit, delete_refusal, deleted, formatted, was_reset}
-use Rattle.rules.specs.Drive.{Drive, with_rows, with_policy, unused_keys}
+use Rattle.rules.specs.Commands.{create_checks, create_refusal, new_unit, created, delete_checks, delete_refusal, deleted, formatted, was_reset}
+use Rattle.rules.specs.Drive.{Drive, with_rows, with_policy, row_of, kind_of, unused_keys}
 use Rattle.rules.specs.FreshKeys.{holders_of, unit_and_ranges}
-use Rattle.rules.specs.Methods.{row_of, kind_of, row_to_take, taken, unit_row_assigned, range_row_assigned, freed, given_up, range_set, locks_set, key_generated, range_rows_remain, reactivated_row, reactivated}
-use Rattle.rules.specs.Requests.{Put, Drop, NoneRefused, requests_of_deassign, swaps}
-use Rattle.rules.specs.Questions.{key_or}
-use Rattle.rules.specs.Rows.{blank, no_row, row, is_free, is_a_unit_row, covers, each_row_by, is_single_user, relocked, with_kind, with_flags, with_range, anew, unit_row_of, range_row_of, range_over, is_there, is_free_there, any_row}
-use Rattle.rules.specs.Sound.{Sound, SoundRows, unit_fits, row_fits, is_global, policy_fits, serial_of, row_key, serials}
-use Rattle.rules.specs.Units.{no_unit, valid, exists, unit, with_unit, without_unit}
-use Rattle.vault.proofs.Checks.{all-passed}
-use Rattle.rules.proofs.Accepted.{create_checks, delete_checks}
+use Rattle.rules.specs.Methods.{row_to_take, taken, unit_row_assigned, range_row_assigned, range_rows_remain, freed, given_up, range_set, locks_set, key_generated, reactivated_row, reactivated}
+use Rattle.rules.specs.Requests.{Put, Drop, NoneRefused, swaps, requests_of_deassign}
+use Rattle.rules.specs.Rows.{blank, relocked, no_row, row, is_free, is_a_unit_row, with_range, is_single_user, with_flags, with_kind, anew, covers, unit_row_of, range_row_of, range_over, is_there, key_or}
+use Rattle.rules.specs.Sound.{unit_fits, is_global, row_fits, SoundRows, serial_of, row_key, serials, policy_fits, Sound}
+use Rattle.rules.specs.Units.{valid, no_unit, exists, unit, with_unit, without_unit}
+use Rattle.rules.proofs.Accepted.{passed}
 use Rattle.rules.proofs.Keys.{keys-as, put-capacity, drop-capacity, put-done, put-keys, drop-done, drop-keys, collect-unit, collect-without, filled, cleared}
 use Rattle.rules.proofs.Lookups.{lookup-insert, lookup-remove, has-remove-other, all_insert, all_remove}
 use Rattle.rules.proofs.Renewals.{unit-key, renewed-sound, valid-of-row, valid-of-unit}
 use Rattle.rules.proofs.RowsKept.{any_same, any_at, within, in_table, none-at, kind-free, over-apart, fits-exists, fits_under, fits-key, rows-unit-row, rows-range, rows-free, rows_alike, rows-units}
-use Rattle.rules.proofs.Searches.{missed, not_there, at-free, set-alike, unwritten, each_row}
-use Rattle.rules.proofs.Selections.{length-each, row-each, each-alike, map-alike, some-bit}
+use Rattle.rules.proofs.Searches.{missed, at_there, not_there, set-alike, unwritten, each_row}
+use Rattle.rules.proofs.Numbered.{each_row_by, length-each, row-each, each-alike}
+use Rattle.rules.proofs.Selections.{map-alike, some-bit}
 use Rattle.rules.proofs.Words.{words_long, row_word, row_written}
 
 -- rows that keep their kinds keep their keys
@@ -80,13 +80,13 @@ module _ (d : Drive) (h : Sound d) where
   -- ---- units
   pub create-sound : (n blocks : ℕ) → create_refusal d n blocks ≡ None → Sound (created d n blocks) × NoneRefused d.vault (Put d.next ∷ []) (created d n blocks).vault
   create-sound n blocks e =
-      let p = all-passed (create_checks d n blocks) e in
-      let ok : valid d.numbering n ≡ true = not-false _ p.1.0 in
-      let new : exists n d.units ≡ false = p.1.1.0 in
-      let size : (leb 1 blocks && leb blocks (2 ^ 48)) ≡ true = not-false _ p.1.1.1.0 in
-      let few : leb 16 (length d.units) ≡ false = p.1.1.1.1.0 in
-      let room : eqb (unused_keys d) 0 ≡ false = p.1.1.1.1.1.0 in
-      let last : ltb 4294967295 (d.next + 1) ≡ false = p.1.1.1.1.1.1.0 in
+      let p = passed d (create_checks d n blocks) e in
+      let ok : valid d.numbering n ≡ true = not-false _ p.0 in
+      let new : exists n d.units ≡ false = p.1.0 in
+      let size : (leb 1 blocks && leb blocks (2 ^ 48)) ≡ true = not-false _ p.1.1.0 in
+      let few : leb 16 (length d.units) ≡ false = p.1.1.1.0 in
+      let room : eqb (unused_keys d) 0 ≡ false = p.1.1.1.1.0 in
+      let last : ltb 4294967295 (d.next + 1) ≡ false = p.1.1.1.1.1.0 in
       let u : LogicalUnit = new_unit d n blocks in
       let z : d.next ≡ 0 → ⊥ = (λ y. omega (arith, h.next.0)) in
       let more = collect-unit u d.units (map row_key d.rows) z in
@@ -116,9 +116,9 @@ module _ (d : Drive) (h : Sound d) where
 
   pub delete-sound : (n : ℕ) → delete_refusal d n ≡ None → Sound (deleted d n) × NoneRefused d.vault (Drop (unit n d.units).serial ∷ []) (deleted d n).vault
   delete-sound n e =
-      let p = all-passed (delete_checks d n) e in
-      let ex : exists n d.units ≡ true = not-false _ p.1.0 in
-      let free : is_there (UnitRowOf n) d.rows ≡ false = p.1.1.0 in
+      let p = passed d (delete_checks d n) e in
+      let ex : exists n d.units ≡ true = not-false _ p.0 in
+      let free : is_there (UnitRowOf n) d.rows ≡ false = p.1.0 in
       let s = (unit n d.units).serial in
       let z : s ≡ 0 → ⊥ = (λ y. omega (arith, unit-key d n h ex)) in
       let fewer = collect-without n d.units (map row_key d.rows) ex z in (
@@ -165,13 +165,13 @@ module _ (d : Drive) (h : Sound d) where
 
   -- ---- Assign
   -- the row that is taken is free
-  pub take-free : (standing : Standing) → is_free_there standing d.rows ≡ true → (row_to_take d standing < 17) × (kind_of d (row_to_take d standing) ≡ Free)
+  pub take-free : (standing : Standing) → is_there (FreeRow standing) d.rows ≡ true → (row_to_take d standing < 17) × (kind_of d (row_to_take d standing) ≡ Free)
   take-free standing t =
-      let p = at-free standing d.rows t in
+      let p = at_there (FreeRow standing) d.rows t in
       let e : row_to_take d standing ≡ p.0 = ap (λ o. unwrap_or o 0) p.3 in
       (omega (arith, p.1, h.rows.seventeen, e), ap (kind_of d) e ∙ kind-free (kind_of d p.0) (and_parts (is_free (kind_of d p.0)) _ p.2).0)
 
-  pub unit-row-sound : (n : ℕ) (standing : Standing) → exists n d.units ≡ true → is_there (UnitRowOf n) d.rows ≡ false → is_free_there standing d.rows ≡ true → Sound (unit_row_assigned d n standing)
+  pub unit-row-sound : (n : ℕ) (standing : Standing) → exists n d.units ≡ true → is_there (UnitRowOf n) d.rows ≡ false → is_there (FreeRow standing) d.rows ≡ true → Sound (unit_row_assigned d n standing)
   unit-row-sound n standing ex no-unit t =
       let f = take-free standing t in
       let r = row_to_take d standing in
@@ -186,7 +186,7 @@ module _ (d : Drive) (h : Sound d) where
   ]
 
   pub range-row-sound : (n start len : ℕ) (standing : Standing) → exists n d.units ≡ true → is_there (UnitRowOf n) d.rows ≡ true → ltb (unit n d.units).blocks (start + len) ≡ false
-      → is_there (RangeSharing n start len) d.rows ≡ false → is_free_there standing d.rows ≡ true → eqb (unused_keys d) 0 ≡ false → ltb 4294967295 (d.next + 1) ≡ false
+      → is_there (RangeSharing n start len) d.rows ≡ false → is_there (FreeRow standing) d.rows ≡ true → eqb (unused_keys d) 0 ≡ false → ltb 4294967295 (d.next + 1) ≡ false
       → Sound (range_row_assigned d n start len standing) × NoneRefused d.vault (Put d.next ∷ []) (range_row_assigned d n start len standing).vault
   range-row-sound n start len standing ex under past sharing t room last =
       let f = take-free standing t in
@@ -284,11 +284,11 @@ module _ (d : Drive) (h : Sound d) where
   reactivate-sound selection policy small low =
       let make = reactivated_row selection in
       let rows = each_row_by make d.rows in
-      alike-sound rows (cond (eqb selection 0) 1 policy) (length-each make d.rows) (each-alike (λ (r : Row). r.kind) make (λ n r. refl) d.rows)
+      alike-sound rows (cond (eqb selection 0) 1 policy) (length-each make d.rows) (each-alike make d.rows (λ (r : Row). r.kind) (λ n r. refl))
       (λ r l f. ap (λ (x : Row). x.flags) (row-each make d.rows r (within d.units d.rows h.rows r l)))
       (go (eqb selection 0) refl)
     where
-      single : selection ≢ 0 → any_row (λ r. is_single_user r.standing) (each_row_by (reactivated_row selection) d.rows) ≡ true
+      single : selection ≢ 0 → list_any (λ r. is_single_user r.standing) (each_row_by (reactivated_row selection) d.rows) ≡ true
       single z =
           let p = some-bit 17 selection (leb-false _ _ small) z in
           let l : p.0 < length d.rows = omega (arith, p.1, h.rows.seventeen) in

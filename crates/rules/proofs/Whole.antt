@@ -20,11 +20,11 @@ use Rattle.rules.specs.declared.row.Sought.TheVariants.{UnitRowOf}
 use Rattle.rules.specs.declared.unit.Holder.{Holder}
 use Rattle.rules.specs.declared.unit.Holder.TheVariants.{TheUnit, TheRow}
 use Rattle.rules.specs.Calls.{refusal, left, said, after, answer, is_accepted}
-use Rattle.rules.specs.Drive.{Drive}
+use Rattle.rules.specs.Drive.{Drive, kind_of}
 use Rattle.rules.specs.FreshKeys.{fresh_key, holders_of, unit_and_ranges}
-use Rattle.rules.specs.Laws.{Begins, point, call_at, answered_at, has_block, holds_key, FreshlyKeyed, SetByOwner, StaysSound, AlwaysRangesInOrder, AlwaysOneKeyEach, NoRequestRefused, NoKeyReturns, OpenedByOwnerOrFreshKey, RefusedChangesNothing}
-use Rattle.rules.specs.Methods.{kind_of, unit_row_assigned, range_row_assigned, given_up, freed}
-use Rattle.rules.specs.MoreQuestions.{block_locked}
+use Rattle.rules.specs.Laws.{Begins, point, call_at, answered_at, StaysSound, AlwaysRangesInOrder, holds_key, AlwaysOneKeyEach, NoRequestRefused, NoKeyReturns, has_block, FreshlyKeyed, SetByOwner, OpenedByOwnerOrFreshKey, RefusedChangesNothing}
+use Rattle.rules.specs.Methods.{unit_row_assigned, range_row_assigned, freed, given_up}
+use Rattle.rules.specs.Questions.{block_locked}
 use Rattle.rules.specs.Requests.{Request, Put, Swap, Drop, vault_after, NoneRefused, swaps, requests_of_deassign, requests}
 use Rattle.rules.specs.Rows.{is_there}
 use Rattle.rules.specs.Sound.{Sound}

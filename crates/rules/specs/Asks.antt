@@ -8,8 +8,7 @@ use Rattle.rules.specs.declared.ask.Told.TheVariants as tells
 use Rattle.rules.specs.declared.cause.Cause.{Cause}
 use Rattle.rules.specs.Calls as calls
 use Rattle.rules.specs.Drive.{Drive}
-use Rattle.rules.specs.MoreQuestions.{access_answer, read_row_answer}
-use Rattle.rules.specs.Questions.{unused_answer, controls_answer}
+use Rattle.rules.specs.Questions.{access_answer, controls_answer, unused_answer, read_row_answer}
 
 abbrev pub Reply : Type 0
 Reply = Result Told Cause

@@ -10,21 +10,21 @@ use Rattle.rules.specs.declared.cause.Cause.{Cause}
 use Rattle.rules.specs.Commands.{create_refusal, created, delete_refusal, deleted, format_refusal, formatted, reset_refusal, was_reset}
 use Rattle.rules.specs.Drive.{Drive}
 use Rattle.rules.specs.Methods.{assign_refusal, assigned, assigned_row, deassign_refusal, deassigned, set_range_refusal, range_set, set_locks_refusal, locks_set, gen_key_refusal, key_generated, erase_refusal, erased, reactivate_refusal, reactivated}
-use Rattle.rules.specs.Sessions.{opening_refusal, or_else}
+use Rattle.rules.specs.Sessions.{in_session}
 
--- the caller of a method opens a session first, and so does who shows one to Reset
+-- a method comes in a session, and Reset is shown one
 abbrev pub refusal : Drive → Call → Option Cause
-refusal d (Assign caller n start length standing) = or_else (opening_refusal caller) (assign_refusal d caller n start length standing)
-refusal d (Deassign caller r keep) = or_else (opening_refusal caller) (deassign_refusal d caller r keep)
-refusal d (SetRange caller r start length) = or_else (opening_refusal caller) (set_range_refusal d caller r start length)
-refusal d (SetLocks caller r flags) = or_else (opening_refusal caller) (set_locks_refusal d caller r)
-refusal d (GenKey caller r) = or_else (opening_refusal caller) (gen_key_refusal d caller r)
-refusal d (Erase caller r) = or_else (opening_refusal caller) (erase_refusal d caller r)
-refusal d (Reactivate caller selection policy) = or_else (opening_refusal caller) (reactivate_refusal d caller selection policy)
+refusal d (Assign caller n start length standing) = in_session caller (assign_refusal d caller n start length standing)
+refusal d (Deassign caller r keep) = in_session caller (deassign_refusal d caller r keep)
+refusal d (SetRange caller r start length) = in_session caller (set_range_refusal d caller r start length)
+refusal d (SetLocks caller r flags) = in_session caller (set_locks_refusal d caller r)
+refusal d (GenKey caller r) = in_session caller (gen_key_refusal d caller r)
+refusal d (Erase caller r) = in_session caller (erase_refusal d caller r)
+refusal d (Reactivate caller selection policy) = in_session caller (reactivate_refusal d caller selection policy)
 refusal d (Create n blocks) = create_refusal d n blocks
 refusal d (Delete n) = delete_refusal d n
 refusal d (Format n) = format_refusal d n
-refusal d (Reset caller) = or_else (opening_refusal caller) (reset_refusal d)
+refusal d (Reset caller) = in_session caller (reset_refusal d)
 
 -- what an accepted call leaves
 abbrev pub left : Drive → Call → Drive

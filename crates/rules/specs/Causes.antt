@@ -1,5 +1,5 @@
 -- Each cause of a refusal, with its number and its status.
-use Rattle.std.specs.Prelude.{ℕ, Some, None, Option}
+use Rattle.std.specs.Prelude.{ℕ, Some, None, Option, Result}
 use Rattle.rules.specs.declared.cause.Asked.{Asked}
 use Rattle.rules.specs.declared.cause.Asked.TheVariants.{Method, Command}
 use Rattle.rules.specs.declared.cause.Cause.{Cause}
@@ -7,6 +7,11 @@ use Rattle.rules.specs.declared.cause.Cause.TheVariants.{CallerNotAllowed, NoSuc
 use Rattle.rules.specs.declared.cause.Status.{Status}
 use Rattle.rules.specs.declared.cause.Status.TheVariants.{NotAuthorized, InvalidParameter, InsufficientRows, Fail, OperationDenied, InvalidNamespaceOrFormat, LbaOutOfRange, AccessDenied}
 
+-- what is answered where there is nothing to tell but that it is done
+abbrev pub Done : Type 0
+Done = Result (Unit {0}) Cause
+
+-- ---- the number and the status of each
 abbrev pub number : Cause → ℕ
 number CallerNotAllowed = 1
 number NoSuchRow = 2

@@ -1,31 +1,32 @@
 -- The commands: for each its checks in their order, what it leaves, and what it answers.
-use Rattle.std.specs.Prelude.{ℕ, ◌^◌, Bool, not, ◌&&◌, List, [], ◌∷◌, map, length, is_some, Option, Result, ◌==◌, nat_le}
-use Rattle.vault.specs.Checks.{first_of, answer, unless}
+use Rattle.std.specs.Prelude.{ℕ, ◌^◌, Bool, not, ◌&&◌, List, [], ◌∷◌, map, length, Option, ◌==◌, nat_le}
+use Rattle.std.specs.List.{list_any}
+use Rattle.vault.specs.Checks.{answer, unless}
 use Rattle.vault.specs.Meaning.{put_after, drop_after}
 use Rattle.rules.specs.declared.cause.Cause.{Cause}
-use Rattle.rules.specs.declared.cause.Cause.TheVariants.{NoSuchUnit, UnitExists, BadSize, NoUnusedKey, SerialsRunOut, Locked, HasUnitRow, SixteenUnits, Closed}
+use Rattle.rules.specs.declared.cause.Cause.TheVariants.{NoSuchUnit, UnitExists, BadSize, NoUnusedKey, SerialsRunOut, Locked, HasUnitRow, SixteenUnits}
 use Rattle.rules.specs.declared.row.Sought.TheVariants.{UnitRowOf, RangeRowOf}
 use Rattle.rules.specs.declared.unit.LogicalUnit.{LogicalUnit}
-use Rattle.rules.specs.Drive.{Drive, with_units, with_rows, with_vault, spent, run_out, unused_keys}
+use Rattle.rules.specs.Causes.{Done}
+use Rattle.rules.specs.Drive.{Drive, with_units, with_rows, with_vault, row_locked, spent, run_out, unused_keys, refused_by}
 use Rattle.rules.specs.FreshKeys.{fresh_keys, unit_and_ranges}
-use Rattle.rules.specs.Rows.{row, locked, lowest_row, relocked, with_flags, all_rows, row_under, some_locked}
+use Rattle.rules.specs.Rows.{relocked, with_flags, is_there, all_rows, row_under}
 use Rattle.rules.specs.Units.{valid, exists, unit, with_unit, without_unit}
 
-abbrev pub Done : Type 0
-Done = Result (Unit {0}) Cause
-
 -- ---- Create: a unit with this number and so many blocks
-abbrev pub create_refusal : Drive → ℕ → ℕ → Option Cause
-create_refusal d n blocks = first_of (
-    (d.closed, Closed)
-    ∷ (not (valid d.numbering n), NoSuchUnit)
+abbrev pub create_checks : Drive → ℕ → ℕ → List (Bool × Cause)
+create_checks d n blocks =
+    (not (valid d.numbering n), NoSuchUnit)
     ∷ (exists n d.units, UnitExists)
     ∷ (not (nat_le 1 blocks && nat_le blocks (2 ^ 48)), BadSize)
     ∷ (nat_le 16 (length d.units), SixteenUnits)
     ∷ ((unused_keys d == 0), NoUnusedKey)
     ∷ (run_out 1 d, SerialsRunOut)
-    ∷ (locked (row 0 d.rows).flags, Locked)
-    ∷ [])
+    ∷ (row_locked d 0, Locked)
+    ∷ []
+
+abbrev pub create_refusal : Drive → ℕ → ℕ → Option Cause
+create_refusal d n blocks = refused_by d (create_checks d n blocks)
 
 -- a unit under a fresh key
 abbrev pub new_unit : Drive → ℕ → ℕ → LogicalUnit
@@ -43,13 +44,15 @@ abbrev pub create_answer : Drive → ℕ → ℕ → Done
 create_answer d n blocks = answer (create_refusal d n blocks) tt
 
 -- ---- Delete: the unit with this number
+abbrev pub delete_checks : Drive → ℕ → List (Bool × Cause)
+delete_checks d n =
+    (not (exists n d.units), NoSuchUnit)
+    ∷ (is_there (UnitRowOf n) d.rows, HasUnitRow)
+    ∷ (row_locked d 0, Locked)
+    ∷ []
+
 abbrev pub delete_refusal : Drive → ℕ → Option Cause
-delete_refusal d n = first_of (
-    (d.closed, Closed)
-    ∷ (not (exists n d.units), NoSuchUnit)
-    ∷ (is_some (lowest_row (UnitRowOf n) d.rows), HasUnitRow)
-    ∷ (locked (row 0 d.rows).flags, Locked)
-    ∷ [])
+delete_refusal d n = refused_by d (delete_checks d n)
 
 -- the unit is gone, and its key is dropped
 abbrev pub deleted : Drive → ℕ → Drive
@@ -64,14 +67,13 @@ delete_answer d n = answer (delete_refusal d n) tt
 -- ---- Format: fresh keys for a unit and its range rows
 abbrev pub format_checks : Drive → ℕ → List (Bool × Cause)
 format_checks d n =
-    (d.closed, Closed)
-    ∷ (not (exists n d.units), NoSuchUnit)
-    ∷ (some_locked (row_under d.rows n ∷ all_rows (RangeRowOf n) d.rows) d.rows, Locked)
+    (not (exists n d.units), NoSuchUnit)
+    ∷ (list_any (row_locked d) (row_under d.rows n ∷ all_rows (RangeRowOf n) d.rows), Locked)
     ∷ (run_out (length (unit_and_ranges d n)) d, SerialsRunOut)
     ∷ []
 
 abbrev pub format_refusal : Drive → ℕ → Option Cause
-format_refusal d n = first_of (format_checks d n)
+format_refusal d n = refused_by d (format_checks d n)
 
 -- flags and ranges stay
 abbrev pub formatted : Drive → ℕ → Drive
@@ -85,7 +87,7 @@ format_answer d n = answer (format_refusal d n) tt
 
 -- ---- Reset: the drive was reset
 abbrev pub reset_refusal : Drive → Option Cause
-reset_refusal d = first_of ((d.closed, Closed) ∷ [])
+reset_refusal d = refused_by d []
 
 abbrev pub was_reset : Drive → Drive
 was_reset d = with_rows (map (λ r. with_flags (relocked r.flags) r) d.rows) d

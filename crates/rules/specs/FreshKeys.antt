@@ -8,25 +8,25 @@ use Rattle.rules.specs.declared.row.Sought.TheVariants.{UnitRowOf, RangeRowOf}
 use Rattle.rules.specs.declared.unit.Holder.{Holder}
 use Rattle.rules.specs.declared.unit.Holder.TheVariants.{TheUnit, TheRow}
 use Rattle.rules.specs.declared.unit.LogicalUnit.{LogicalUnit}
-use Rattle.rules.specs.Drive.{Drive, with_units, with_rows, with_vault, spent}
-use Rattle.rules.specs.Questions.{key_or}
-use Rattle.rules.specs.Rows.{row, is_range_row, with_serial, with_kind, with_row, is_there, all_rows}
+use Rattle.rules.specs.Drive.{Drive, with_units, with_rows, with_vault, row_of, kind_of, spent}
+use Rattle.rules.specs.Rows.{is_range_row, with_serial, with_kind, with_row, is_there, all_rows, key_or}
 use Rattle.rules.specs.Units.{exists, unit, with_key}
+use Rattle.rules.specs.Walk.{after_by}
 
 -- the key that a unit or a range row has
 abbrev pub key_of : Drive → Holder → ℕ
 key_of d (TheUnit n) = (unit n d.units).serial
-key_of d (TheRow r) = key_or (row r d.rows).kind 0
+key_of d (TheRow r) = key_or (kind_of d r) 0
 
 -- there is such a unit, or such a range row
 abbrev pub HasKey : Drive → Holder → Type 0
 HasKey d (TheUnit n) = exists n d.units ≡ true
-HasKey d (TheRow r) = is_range_row (row r d.rows).kind ≡ true
+HasKey d (TheRow r) = is_range_row (kind_of d r) ≡ true
 
 -- a unit or a range row under another key
 abbrev pub rekeyed : ℕ → Holder → Drive → Drive
 rekeyed serial (TheUnit n) d = with_units (with_key n serial d.units) d
-rekeyed serial (TheRow r) d = with_rows (with_row r (with_kind (with_serial serial (row r d.rows).kind) (row r d.rows)) d.rows) d
+rekeyed serial (TheRow r) d = with_rows (with_row r (with_kind (with_serial serial (kind_of d r)) (row_of d r)) d.rows) d
 
 -- it gets a fresh key, which in the vault is swapped for the old one
 abbrev pub fresh_key : Drive → Holder → Drive
@@ -34,8 +34,7 @@ fresh_key d holder = spent 1 (with_vault (swap_after d.vault (key_of d holder) d
 
 -- each of these gets a fresh key, in this order
 unfoldable pub fresh_keys : Drive → List Holder → Drive
-fresh_keys d [] = d
-fresh_keys d (holder ∷ holders) = fresh_keys (fresh_key d holder) holders
+fresh_keys d holders = after_by fresh_key d holders
 
 -- ---- what gets fresh keys
 -- the units under row 0, in rising order

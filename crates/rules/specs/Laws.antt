@@ -1,7 +1,7 @@
 -- What holds of every run: a drive that is blank or that a sheet can describe, and then any list of calls, accepted or refused.
 use Rattle.std.specs.Prelude.{◌≡◌, ℕ, ◌+◌, ◌<◌, ◌≤◌, Bool, true, false, ◌&&◌, ◌⊎◌, List, length, None, Ok, Err, filter, nat_lt, slice_index_or}
 use Rattle.vault.specs.Meaning.{Meaning, sound}
-use Rattle.vault.specs.Serials.{holds, collect, distinct}
+use Rattle.vault.specs.Serials.{holds}
 use Rattle.rules.specs.declared.access.Access.{Access}
 use Rattle.rules.specs.declared.call.Accepted.TheVariants.{Success}
 use Rattle.rules.specs.declared.call.Call.{Call}
@@ -9,16 +9,16 @@ use Rattle.rules.specs.declared.call.Call.TheVariants.{SetLocks, Reset}
 use Rattle.rules.specs.declared.cause.Cause.{Cause}
 use Rattle.rules.specs.declared.row.Flags.{Flags}
 use Rattle.rules.specs.declared.row.Kind.TheVariants.{UnitRow, RangeRow}
+use Rattle.rules.specs.declared.unit.Holder.{Holder}
 use Rattle.rules.specs.Calls.{Answer, after, answer, is_accepted}
-use Rattle.rules.specs.Drive.{Drive, unused_keys}
+use Rattle.rules.specs.Drive.{Drive, row_of, kind_of, unused_keys}
+use Rattle.rules.specs.FreshKeys.{HasKey, key_of}
 use Rattle.rules.specs.LayingOut.{fresh_refusal, fresh}
-use Rattle.rules.specs.Methods.{row_of, kind_of}
-use Rattle.rules.specs.MoreQuestions.{block_locked}
-use Rattle.rules.specs.Questions.{controlling_row, control_of}
+use Rattle.rules.specs.Questions.{block_locked, control_of}
 use Rattle.rules.specs.Requests.{NoneRefused, requests}
-use Rattle.rules.specs.Rows.{covers, is_range_row}
+use Rattle.rules.specs.Rows.{covers, is_range_row, controlling_row}
 use Rattle.rules.specs.Sessions.{owner}
-use Rattle.rules.specs.Sound.{Sound, serials}
+use Rattle.rules.specs.Sound.{Sound}
 use Rattle.rules.specs.Units.{exists, unit}
 use Rattle.rules.specs.Walk.{answers_by, points_by}
 
@@ -62,13 +62,17 @@ abbrev pub AlwaysRangesInOrder : Type 0
 AlwaysRangesInOrder = AtEveryPoint RangesInOrder
 
 -- ---- the vault holds one key for each unit and each range row, all different, and nothing else; with the unused ones they make up the capacity
+abbrev pub holds_key : Drive → ℕ → Bool
+holds_key d s = holds s d.vault.held
+
 abbrev pub range_rows : Drive → ℕ
 range_rows d = length (filter (λ r. is_range_row r.kind) d.rows)
 
 pub record OneKeyEach (d : Drive) : Type 0 where
-  pub held : d.vault.held ≡ collect (serials d.units d.rows)
-  pub different : distinct (serials d.units d.rows) ≡ true
-  pub one_each : length d.vault.held ≡ length d.units + range_rows d
+  pub held : (holder : Holder) → HasKey d holder → holds_key d (key_of d holder) ≡ true
+  pub different : (one other : Holder) → HasKey d one → HasKey d other → key_of d one ≡ key_of d other → one ≡ other
+  pub nothing_else : (s : ℕ) → holds_key d s ≡ true → (holder : Holder) × HasKey d holder × (key_of d holder ≡ s)
+  pub counted : length d.vault.held ≡ length d.units + range_rows d
   pub in_all : length d.units + range_rows d + unused_keys d ≡ d.vault.capacity
 
 abbrev pub AlwaysOneKeyEach : Type 0
@@ -81,9 +85,6 @@ NoRequestRefused = (d : Drive) → Begins d → (calls : List Call) (k : ℕ) �
     → NoneRefused (point d calls k).vault (requests (point d calls k) (call_at calls k)) (point d calls (k + 1)).vault
 
 -- ---- a key that was held and is no more is never held again
-abbrev pub holds_key : Drive → ℕ → Bool
-holds_key d s = holds s d.vault.held
-
 abbrev pub NoKeyReturns : Type 0
 NoKeyReturns = (d : Drive) → Begins d → (calls : List Call) (s i j k : ℕ) → i ≤ j → j ≤ k → k ≤ length calls
     → holds_key (point d calls i) s ≡ true → holds_key (point d calls j) s ≡ false → holds_key (point d calls k) s ≡ false

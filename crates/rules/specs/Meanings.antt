@@ -8,13 +8,11 @@ use Rattle.rules.specs.declared.call.Call.TheVariants.{Reactivate}
 use Rattle.rules.specs.declared.cause.Cause.TheVariants.{BlockLocked}
 use Rattle.rules.specs.declared.unit.Holder.{Holder}
 use Rattle.rules.specs.declared.unit.Holder.TheVariants.{TheUnit}
-use Rattle.rules.specs.Drive.{Drive}
+use Rattle.rules.specs.Drive.{Drive, kind_of}
 use Rattle.rules.specs.FreshKeys.{HasKey, key_of, fresh_keys, holders_of, unit_and_ranges}
 use Rattle.rules.specs.Laws.{Begins, point, call_at, answered_at}
-use Rattle.rules.specs.Methods.{kind_of}
-use Rattle.rules.specs.MoreQuestions.{block_locked, access_refusal}
-use Rattle.rules.specs.Questions.{controlling_row}
-use Rattle.rules.specs.Rows.{is_single_user, covers, shares}
+use Rattle.rules.specs.Questions.{block_locked, access_refusal}
+use Rattle.rules.specs.Rows.{is_single_user, covers, shares, controlling_row}
 use Rattle.rules.specs.Sound.{Sound}
 use Rattle.rules.specs.Units.{exists}
 

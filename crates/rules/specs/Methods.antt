@@ -1,37 +1,25 @@
 -- The methods, through a writing session of a caller: for each its checks in their order, what it leaves, and what it answers.
-use Rattle.std.specs.Prelude.{ℕ, ◌+◌, ◌/◌, ◌%◌, ◌^◌, Bool, false, cond, not, ◌&&◌, ◌||◌, List, [], ◌∷◌, length, Option, Result, ◌==◌, count_ones, nat_le, nat_lt}
+use Rattle.std.specs.Prelude.{ℕ, ◌+◌, ◌/◌, ◌%◌, ◌^◌, Bool, false, cond, not, ◌&&◌, ◌||◌, List, [], ◌∷◌, map, length, Option, Result, ◌==◌, count_ones, nat_le, nat_lt}
+use Rattle.std.specs.List.{list_any}
 use Rattle.std.specs.Option.{unwrap_or}
-use Rattle.vault.specs.Checks.{first_of, answer, unless}
+use Rattle.vault.specs.Checks.{answer, unless}
 use Rattle.vault.specs.Meaning.{put_after, drop_after}
 use Rattle.rules.specs.declared.cause.Cause.{Cause}
-use Rattle.rules.specs.declared.cause.Cause.TheVariants.{CallerNotAllowed, NoSuchRow, RowFree, WrongKind, NoSuchUnit, PastUnit, SharesBlock, FirstNotWhole, NoFreeRow, NoUnusedKey, SerialsRunOut, Locked, SingleUserInTheWay, KeepOnRange, RangeRowsRemain, OutOfBounds, LockEnabled, Closed}
+use Rattle.rules.specs.declared.cause.Cause.TheVariants.{CallerNotAllowed, NoSuchRow, RowFree, WrongKind, NoSuchUnit, PastUnit, SharesBlock, FirstNotWhole, NoFreeRow, NoUnusedKey, SerialsRunOut, Locked, SingleUserInTheWay, KeepOnRange, RangeRowsRemain, OutOfBounds, LockEnabled}
 use Rattle.rules.specs.declared.row.Flags.{Flags}
 use Rattle.rules.specs.declared.row.Kind.{Kind}
 use Rattle.rules.specs.declared.row.Kind.TheVariants.{Free, Global, UnitRow, RangeRow}
 use Rattle.rules.specs.declared.row.Row.{Row}
-use Rattle.rules.specs.declared.row.Sought.TheVariants.{UnitRowOf, RangeRowOf, RangeSharing}
+use Rattle.rules.specs.declared.row.Sought.TheVariants.{FreeRow, UnitRowOf, RangeRowOf, RangeSharing}
 use Rattle.rules.specs.declared.row.Standing.{Standing}
 use Rattle.rules.specs.declared.row.Standing.TheVariants.{Shared, SingleUser}
 use Rattle.rules.specs.declared.unit.Holder.TheVariants.{TheUnit}
-use Rattle.rules.specs.Commands.{Done}
-use Rattle.rules.specs.Drive.{Drive, with_rows, with_policy, with_vault, spent, run_out, unused_keys}
+use Rattle.rules.specs.Causes.{Done}
+use Rattle.rules.specs.Drive.{Drive, with_rows, with_policy, with_vault, row_of, kind_of, single_user, row_locked, spent, run_out, unused_keys, refused_by}
 use Rattle.rules.specs.FreshKeys.{fresh_keys, holders_of}
-use Rattle.rules.specs.Rows.{blank, row, locked, lock_enabled, is_free, is_a_unit_row, is_range_row, is_single_user, with_range, with_row, with_flags, with_kind, anew, is_there, lowest_free, is_free_there, row_under, any_row, each_row_by}
+use Rattle.rules.specs.Rows.{blank, lock_enabled, is_free, is_a_unit_row, is_range_row, with_range, with_row, with_flags, with_kind, anew, lowest_row, is_there, numbered, row_under}
 use Rattle.rules.specs.Sessions.{admins, owner, mover, is_not}
 use Rattle.rules.specs.Units.{exists, unit}
-
--- row r of the drive, and what it says
-abbrev pub row_of : Drive → ℕ → Row
-row_of d r = row r d.rows
-
-abbrev pub kind_of : Drive → ℕ → Kind
-kind_of d r = (row r d.rows).kind
-
-abbrev pub single_user : Drive → ℕ → Bool
-single_user d r = is_single_user (row r d.rows).standing
-
-abbrev pub row_locked : Drive → ℕ → Bool
-row_locked d r = locked (row r d.rows).flags
 
 -- ---- Assign: a row for a unit, or for a range of a unit that has one
 -- the first Assign of a unit gives it a unit row
@@ -40,7 +28,7 @@ unit_row_checks d start length standing =
     (not (start == 0 && length == 0), FirstNotWhole)
     ∷ (single_user d 0, SingleUserInTheWay)
     ∷ (row_locked d 0, Locked)
-    ∷ (not (is_free_there standing d.rows), NoFreeRow)
+    ∷ (not (is_there (FreeRow standing) d.rows), NoFreeRow)
     ∷ []
 
 -- any other gives it a range row
@@ -50,24 +38,23 @@ range_row_checks d n start length standing =
     ∷ (is_there (RangeSharing n start length) d.rows, SharesBlock)
     ∷ (single_user d (row_under d.rows n), SingleUserInTheWay)
     ∷ (row_locked d (row_under d.rows n), Locked)
-    ∷ (not (is_free_there standing d.rows), NoFreeRow)
+    ∷ (not (is_there (FreeRow standing) d.rows), NoFreeRow)
     ∷ ((unused_keys d == 0), NoUnusedKey)
     ∷ (run_out 1 d, SerialsRunOut)
     ∷ []
 
 abbrev pub assign_checks : Drive → ℕ → ℕ → ℕ → ℕ → Standing → List (Bool × Cause)
 assign_checks d caller n start length standing =
-    (d.closed, Closed)
-    ∷ (is_not caller admins, CallerNotAllowed)
+    (is_not caller admins, CallerNotAllowed)
     ∷ (not (exists n d.units), NoSuchUnit)
     ∷ cond (is_there (UnitRowOf n) d.rows) (range_row_checks d n start length standing) (unit_row_checks d start length standing)
 
 abbrev pub assign_refusal : Drive → ℕ → ℕ → ℕ → ℕ → Standing → Option Cause
-assign_refusal d caller n start length standing = first_of (assign_checks d caller n start length standing)
+assign_refusal d caller n start length standing = refused_by d (assign_checks d caller n start length standing)
 
 -- the lowest free row of the standing that is wanted
 abbrev pub row_to_take : Drive → Standing → ℕ
-row_to_take d standing = unwrap_or (lowest_free standing d.rows) 0
+row_to_take d standing = unwrap_or (lowest_row (FreeRow standing) d.rows) 0
 
 -- a row that was free is taken
 abbrev pub taken : Drive → ℕ → Kind → List Row
@@ -113,8 +100,7 @@ range_rows_remain rows (RangeRow u start length serial) = false
 
 abbrev pub deassign_checks : Drive → ℕ → ℕ → Bool → List (Bool × Cause)
 deassign_checks d caller r keep =
-    (d.closed, Closed)
-    ∷ (nat_lt 16 r, NoSuchRow)
+    (nat_lt 16 r, NoSuchRow)
     ∷ (is_free (kind_of d r), RowFree)
     ∷ ((r == 0), WrongKind)
     ∷ (is_not caller admins, CallerNotAllowed)
@@ -126,7 +112,7 @@ deassign_checks d caller r keep =
     ∷ []
 
 abbrev pub deassign_refusal : Drive → ℕ → ℕ → Bool → Option Cause
-deassign_refusal d caller r keep = first_of (deassign_checks d caller r keep)
+deassign_refusal d caller r keep = refused_by d (deassign_checks d caller r keep)
 
 -- the row becomes free
 abbrev pub freed : Drive → ℕ → Drive
@@ -163,20 +149,26 @@ shares_with_other d r start length Global = false
 shares_with_other d r start length (UnitRow u) = false
 shares_with_other d r start length (RangeRow u old_start old_length serial) = is_there (RangeSharing u start length) (taken d r Free)
 
+-- the unit row of the row's unit is locked
+abbrev pub unit_row_locked : Drive → Kind → Bool
+unit_row_locked d Free = false
+unit_row_locked d Global = false
+unit_row_locked d (UnitRow u) = false
+unit_row_locked d (RangeRow u start length serial) = row_locked d (row_under d.rows u)
+
 abbrev pub set_range_checks : Drive → ℕ → ℕ → ℕ → ℕ → List (Bool × Cause)
 set_range_checks d caller r start length =
-    (d.closed, Closed)
-    ∷ (nat_lt 16 r, NoSuchRow)
+    (nat_lt 16 r, NoSuchRow)
     ∷ (is_free (kind_of d r), RowFree)
     ∷ (not (is_range_row (kind_of d r)), WrongKind)
     ∷ (is_not caller (mover d.policy r (row_of d r)), CallerNotAllowed)
     ∷ (ends_past d start length (kind_of d r), PastUnit)
     ∷ (shares_with_other d r start length (kind_of d r), SharesBlock)
-    ∷ (row_locked d (receiver d.rows (kind_of d r)) || row_locked d r, Locked)
+    ∷ (row_locked d r || unit_row_locked d (kind_of d r), Locked)
     ∷ []
 
 abbrev pub set_range_refusal : Drive → ℕ → ℕ → ℕ → ℕ → Option Cause
-set_range_refusal d caller r start length = first_of (set_range_checks d caller r start length)
+set_range_refusal d caller r start length = refused_by d (set_range_checks d caller r start length)
 
 -- the key and the flags stay
 abbrev pub range_set : Drive → ℕ → ℕ → ℕ → Drive
@@ -191,14 +183,13 @@ set_range_answer d caller r start length = answer (set_range_refusal d caller r 
 -- ---- SetLocks: the five flags of a row
 abbrev pub set_locks_checks : Drive → ℕ → ℕ → List (Bool × Cause)
 set_locks_checks d caller r =
-    (d.closed, Closed)
-    ∷ (nat_lt 16 r, NoSuchRow)
+    (nat_lt 16 r, NoSuchRow)
     ∷ (is_free (kind_of d r), RowFree)
     ∷ (is_not caller (owner r (row_of d r)), CallerNotAllowed)
     ∷ []
 
 abbrev pub set_locks_refusal : Drive → ℕ → ℕ → Option Cause
-set_locks_refusal d caller r = first_of (set_locks_checks d caller r)
+set_locks_refusal d caller r = refused_by d (set_locks_checks d caller r)
 
 abbrev pub locks_set : Drive → ℕ → Flags → Drive
 locks_set d r flags = with_rows (with_row r (with_flags flags (row_of d r)) d.rows) d
@@ -212,15 +203,14 @@ set_locks_answer d caller r = answer (set_locks_refusal d caller r) tt
 -- ---- GenKey: fresh keys for what a row stands for
 abbrev pub gen_key_checks : Drive → ℕ → ℕ → List (Bool × Cause)
 gen_key_checks d caller r =
-    (d.closed, Closed)
-    ∷ (nat_lt 16 r, NoSuchRow)
+    (nat_lt 16 r, NoSuchRow)
     ∷ (is_free (kind_of d r), RowFree)
     ∷ (is_not caller (owner r (row_of d r)), CallerNotAllowed)
     ∷ (run_out (length (holders_of d r (kind_of d r))) d, SerialsRunOut)
     ∷ []
 
 abbrev pub gen_key_refusal : Drive → ℕ → ℕ → Option Cause
-gen_key_refusal d caller r = first_of (gen_key_checks d caller r)
+gen_key_refusal d caller r = refused_by d (gen_key_checks d caller r)
 
 abbrev pub key_generated : Drive → ℕ → Drive
 key_generated d r = fresh_keys d (holders_of d r (kind_of d r))
@@ -234,8 +224,7 @@ gen_key_answer d caller r = answer (gen_key_refusal d caller r) tt
 -- ---- Erase: what GenKey does, and then blank flags
 abbrev pub erase_checks : Drive → ℕ → ℕ → List (Bool × Cause)
 erase_checks d caller r =
-    (d.closed, Closed)
-    ∷ (nat_lt 16 r, NoSuchRow)
+    (nat_lt 16 r, NoSuchRow)
     ∷ (is_free (kind_of d r), RowFree)
     ∷ (not (single_user d r), WrongKind)
     ∷ (is_not caller (owner r (row_of d r)) && is_not caller admins, CallerNotAllowed)
@@ -243,7 +232,7 @@ erase_checks d caller r =
     ∷ []
 
 abbrev pub erase_refusal : Drive → ℕ → ℕ → Option Cause
-erase_refusal d caller r = first_of (erase_checks d caller r)
+erase_refusal d caller r = refused_by d (erase_checks d caller r)
 
 abbrev pub erased : Drive → ℕ → Drive
 erased d r = locks_set (key_generated d r) r blank
@@ -257,25 +246,24 @@ erase_answer d caller r = answer (erase_refusal d caller r) tt
 -- ---- Reactivate: which rows are in Single User Mode
 abbrev pub reactivate_checks : Drive → ℕ → ℕ → ℕ → List (Bool × Cause)
 reactivate_checks d caller selection policy =
-    (d.closed, Closed)
-    ∷ (is_not caller admins, CallerNotAllowed)
+    (is_not caller admins, CallerNotAllowed)
     ∷ (nat_le (2 ^ 17) selection || nat_lt 1 policy, OutOfBounds)
-    ∷ (any_row (λ r. lock_enabled r.flags) d.rows, LockEnabled)
+    ∷ (list_any (λ r. lock_enabled r.flags) d.rows, LockEnabled)
     ∷ []
 
 abbrev pub reactivate_refusal : Drive → ℕ → ℕ → ℕ → Option Cause
-reactivate_refusal d caller selection policy = first_of (reactivate_checks d caller selection policy)
+reactivate_refusal d caller selection policy = refused_by d (reactivate_checks d caller selection policy)
 
 -- bit r of the selection is for row r
 abbrev pub selected : ℕ → ℕ → Bool
 selected selection r = (selection / 2 ^ r) % 2 == 1
 
 abbrev pub reactivated_row : ℕ → ℕ → Row → Row
-reactivated_row selection r old = record { kind = old.kind; standing = cond (selected selection r) SingleUser Shared; flags = blank }
+reactivated_row selection r old = record old { standing = cond (selected selection r) SingleUser Shared; flags = blank }
 
 -- the policy is 1 where nothing is selected
 abbrev pub reactivated : Drive → ℕ → ℕ → Drive
-reactivated d selection policy = with_policy (cond (selection == 0) 1 policy) (with_rows (each_row_by (reactivated_row selection) d.rows) d)
+reactivated d selection policy = with_policy (cond (selection == 0) 1 policy) (with_rows (map (λ entry. reactivated_row selection entry.0 entry.1) (numbered d.rows)) d)
 
 abbrev pub reactivate_after : Drive → ℕ → ℕ → ℕ → Drive
 reactivate_after d caller selection policy = unless (reactivate_refusal d caller selection policy) d (reactivated d selection policy)

@@ -8,11 +8,11 @@ use Rattle.rules.specs.declared.row.Kind.{Kind}
 use Rattle.rules.specs.declared.row.Kind.TheVariants.{Free, Global, UnitRow, RangeRow}
 use Rattle.rules.specs.declared.row.Sought.TheVariants.{UnitRowOf}
 use Rattle.rules.specs.declared.unit.Holder.{Holder}
-use Rattle.rules.specs.Drive.{Drive}
+use Rattle.rules.specs.Drive.{Drive, kind_of}
 use Rattle.rules.specs.FreshKeys.{key_of, fresh_key, holders_of, unit_and_ranges}
-use Rattle.rules.specs.Methods.{kind_of}
 use Rattle.rules.specs.Rows.{is_there}
 use Rattle.rules.specs.Units.{unit}
+use Rattle.rules.specs.Walk.{answers_by}
 
 pub data Request : Type 0 where
   Put : ℕ → Request
@@ -35,9 +35,11 @@ NoneRefused m [] last = last ≡ m
 NoneRefused m (request ∷ requests) last = (vault_refusal m request ≡ None) × NoneRefused (vault_after m request) requests last
 
 -- a fresh key in the place of each old one
+abbrev pub swap_of : Drive → Holder → Request
+swap_of d holder = Swap (key_of d holder) d.next
+
 unfoldable pub swaps : Drive → List Holder → List Request
-swaps d [] = []
-swaps d (holder ∷ holders) = Swap (key_of d holder) d.next ∷ swaps (fresh_key d holder) holders
+swaps d holders = answers_by fresh_key swap_of d holders
 
 abbrev pub requests_of_deassign : Drive → Bool → Kind → List Request
 requests_of_deassign d keep Free = []

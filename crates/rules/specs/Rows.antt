@@ -1,5 +1,6 @@
 -- Rows of the Locking table, by number from 0.
-use Rattle.std.specs.Prelude.{ℕ, suc, ◌+◌, ◌-◌, min, max, Bool, true, false, cond, ◌&&◌, ◌||◌, List, [], ◌∷◌, map, is_some, Option, ◌==◌, nat_le, nat_lt, slice_index_or, slice_set}
+use Rattle.std.specs.Prelude.{ℕ, ◌+◌, ◌-◌, min, max, Bool, true, false, ◌&&◌, ◌||◌, List, map, filter, is_some, Option, ◌==◌, nat_le, nat_lt, slice_index_or, slice_set}
+use Rattle.std.specs.List.{enumerate_from}
 use Rattle.std.specs.Option.{unwrap_or}
 use Rattle.packed.specs.First.{first}
 use Rattle.rules.specs.declared.access.Access.{Access}
@@ -9,7 +10,7 @@ use Rattle.rules.specs.declared.row.Kind.{Kind}
 use Rattle.rules.specs.declared.row.Kind.TheVariants.{Free, Global, UnitRow, RangeRow}
 use Rattle.rules.specs.declared.row.Row.{Row}
 use Rattle.rules.specs.declared.row.Sought.{Sought}
-use Rattle.rules.specs.declared.row.Sought.TheVariants.{UnitRowOf, RangeRowOf, RangeOver, RangeSharing}
+use Rattle.rules.specs.declared.row.Sought.TheVariants.{FreeRow, UnitRowOf, RangeRowOf, RangeOver, RangeSharing}
 use Rattle.rules.specs.declared.row.Standing.{Standing}
 use Rattle.rules.specs.declared.row.Standing.TheVariants.{Shared, SingleUser}
 
@@ -19,19 +20,13 @@ abbrev pub blank : Flags
 blank = record { read_lock_enabled = false; write_lock_enabled = false; read_locked = false; write_locked = false; lock_on_reset = true }
 
 -- a row is locked for reading where that lock is enabled and set; for writing likewise
-abbrev pub is_read_locked : Flags → Bool
-is_read_locked f = f.read_lock_enabled && f.read_locked
-
-abbrev pub is_write_locked : Flags → Bool
-is_write_locked f = f.write_lock_enabled && f.write_locked
-
-abbrev pub locked : Flags → Bool
-locked f = is_read_locked f || is_write_locked f
+abbrev pub locked_for : Access → Flags → Bool
+locked_for Read f = f.read_lock_enabled && f.read_locked
+locked_for Write f = f.write_lock_enabled && f.write_locked
 
 -- for the one or the other
-abbrev pub locked_for : Access → Flags → Bool
-locked_for Read f = is_read_locked f
-locked_for Write f = is_write_locked f
+abbrev pub locked : Flags → Bool
+locked f = locked_for Read f || locked_for Write f
 
 -- one of the two locks is enabled, set or not
 abbrev pub lock_enabled : Flags → Bool
@@ -39,12 +34,9 @@ lock_enabled f = f.read_lock_enabled || f.write_lock_enabled
 
 -- what a reset makes of the flags: where LockOnReset is true, each lock that is enabled is set
 abbrev pub relocked : Flags → Flags
-relocked f = record {
-  read_lock_enabled = f.read_lock_enabled;
-  write_lock_enabled = f.write_lock_enabled;
+relocked f = record f {
   read_locked = f.read_locked || (f.lock_on_reset && f.read_lock_enabled);
   write_locked = f.write_locked || (f.lock_on_reset && f.write_lock_enabled);
-  lock_on_reset = f.lock_on_reset;
 }
 
 -- ---- one row
@@ -109,14 +101,14 @@ abbrev pub with_row : ℕ → Row → List Row → List Row
 with_row r new rows = slice_set rows r new
 
 abbrev pub with_flags : Flags → Row → Row
-with_flags flags r = record { kind = r.kind; standing = r.standing; flags = flags }
+with_flags flags r = record r { flags = flags }
 
 abbrev pub with_kind : Kind → Row → Row
-with_kind kind r = record { kind = kind; standing = r.standing; flags = r.flags }
+with_kind kind r = record r { kind = kind }
 
 -- a row that is taken, or given up: it keeps its standing, and its flags are blank
 abbrev pub anew : Kind → Row → Row
-anew kind r = record { kind = kind; standing = r.standing; flags = blank }
+anew kind r = record r { kind = kind; flags = blank }
 
 -- ---- ranges of blocks: the first block, and how many
 -- a range from start, so many blocks long, has this block
@@ -128,77 +120,69 @@ abbrev pub shares : ℕ → ℕ → ℕ → ℕ → Bool
 shares start length other other_length = nat_lt (max start other) (min (start + length) (other + other_length))
 
 -- ---- searches
-abbrev pub suits_kind : Sought → Kind → Bool
-suits_kind (UnitRowOf n) Free = false
-suits_kind (UnitRowOf n) Global = false
-suits_kind (UnitRowOf n) (UnitRow u) = u == n
-suits_kind (UnitRowOf n) (RangeRow u start length serial) = false
-suits_kind (RangeOver n block) Free = false
-suits_kind (RangeOver n block) Global = false
-suits_kind (RangeOver n block) (UnitRow u) = false
-suits_kind (RangeOver n block) (RangeRow u start length serial) = u == n && covers start length block
-suits_kind (RangeRowOf n) Free = false
-suits_kind (RangeRowOf n) Global = false
-suits_kind (RangeRowOf n) (UnitRow u) = false
-suits_kind (RangeRowOf n) (RangeRow u start length serial) = u == n
-suits_kind (RangeSharing n other other_length) Free = false
-suits_kind (RangeSharing n other other_length) Global = false
-suits_kind (RangeSharing n other other_length) (UnitRow u) = false
-suits_kind (RangeSharing n other other_length) (RangeRow u start length serial) = u == n && shares start length other other_length
-
-abbrev pub suits : Sought → Row → Bool
-suits sought r = suits_kind sought r.kind
-
+-- the unit row of this unit
 abbrev pub unit_row_of : ℕ → Kind → Bool
-unit_row_of n kind = suits_kind (UnitRowOf n) kind
+unit_row_of n Free = false
+unit_row_of n Global = false
+unit_row_of n (UnitRow u) = u == n
+unit_row_of n (RangeRow u start length serial) = false
 
+-- a range row of this unit
 abbrev pub range_row_of : ℕ → Kind → Bool
-range_row_of n kind = suits_kind (RangeRowOf n) kind
+range_row_of n Free = false
+range_row_of n Global = false
+range_row_of n (UnitRow u) = false
+range_row_of n (RangeRow u start length serial) = u == n
 
+-- one that covers this block
 abbrev pub range_over : ℕ → ℕ → Kind → Bool
-range_over n block kind = suits_kind (RangeOver n block) kind
+range_over n block Free = false
+range_over n block Global = false
+range_over n block (UnitRow u) = false
+range_over n block (RangeRow u start length serial) = u == n && covers start length block
 
+-- one that shares a block with this range
 abbrev pub range_sharing : ℕ → ℕ → ℕ → Kind → Bool
-range_sharing n other other_length kind = suits_kind (RangeSharing n other other_length) kind
+range_sharing n other other_length Free = false
+range_sharing n other other_length Global = false
+range_sharing n other other_length (UnitRow u) = false
+range_sharing n other other_length (RangeRow u start length serial) = u == n && shares start length other other_length
+
+-- a row is what is looked for
+abbrev pub suits : Sought → Row → Bool
+suits (FreeRow standing) r = is_free r.kind && same_standing standing r.standing
+suits (UnitRowOf n) r = unit_row_of n r.kind
+suits (RangeRowOf n) r = range_row_of n r.kind
+suits (RangeOver n block) r = range_over n block r.kind
+suits (RangeSharing n start length) r = range_sharing n start length r.kind
 
 -- the lowest row that is looked for
 abbrev pub lowest_row : Sought → List Row → Option ℕ
-lowest_row sought rows = first (λ r. suits sought r) rows
+lowest_row sought rows = first (suits sought) rows
 
 abbrev pub is_there : Sought → List Row → Bool
 is_there sought rows = is_some (lowest_row sought rows)
 
--- the lowest free row of a standing
-abbrev pub free_of : Standing → Row → Bool
-free_of standing r = is_free r.kind && same_standing standing r.standing
-
-abbrev pub lowest_free : Standing → List Row → Option ℕ
-lowest_free standing rows = first (λ r. free_of standing r) rows
-
-abbrev pub is_free_there : Standing → List Row → Bool
-is_free_there standing rows = is_some (lowest_free standing rows)
+-- each row with its number
+abbrev pub numbered : List Row → List (ℕ × Row)
+numbered rows = enumerate_from 0 rows
 
 -- the numbers of all the rows that are looked for, rising
 unfoldable pub all_rows : Sought → List Row → List ℕ
-all_rows sought [] = []
-all_rows sought (r ∷ rs) = cond (suits sought r) (0 ∷ map suc (all_rows sought rs)) (map suc (all_rows sought rs))
+all_rows sought rows = map (λ entry. entry.0) (filter (λ entry. suits sought entry.1) (numbered rows))
 
+-- ---- the row of a unit, and of a block
 -- the row that a unit is under: its unit row, else row 0
 abbrev pub row_under : List Row → ℕ → ℕ
 row_under rows n = unwrap_or (lowest_row (UnitRowOf n) rows) 0
 
--- ---- all rows
--- some row passes
-unfoldable pub any_row : (Row → Bool) → List Row → Bool
-any_row test [] = false
-any_row test (r ∷ rs) = test r || any_row test rs
+-- the row that controls a block: the range row of its unit that covers it, else the row that the unit is under
+abbrev pub controlling_row : List Row → ℕ → ℕ → ℕ
+controlling_row rows n block = unwrap_or (lowest_row (RangeOver n block) rows) (row_under rows n)
 
--- one of these rows is locked
-unfoldable pub some_locked : List ℕ → List Row → Bool
-some_locked [] rows = false
-some_locked (r ∷ rs) rows = locked (row r rows).flags || some_locked rs rows
-
--- each row made into another by its number
-unfoldable pub each_row_by : (ℕ → Row → Row) → List Row → List Row
-each_row_by make [] = []
-each_row_by make (r ∷ rs) = make 0 r ∷ each_row_by (λ n. make (suc n)) rs
+-- the key of a range row, else this one
+abbrev pub key_or : Kind → ℕ → ℕ
+key_or Free serial = serial
+key_or Global serial = serial
+key_or (UnitRow u) serial = serial
+key_or (RangeRow u start length own) serial = own

@@ -1,5 +1,6 @@
 -- Callers, the sessions that they open, and who owns a row.
-use Rattle.std.specs.Prelude.{ℕ, ◌+◌, Bool, cond, not, [], ◌∷◌, Some, None, Option, ◌==◌, nat_lt}
+use Rattle.std.specs.Prelude.{ℕ, ◌+◌, Bool, cond, not, [], ◌∷◌, Option, ◌==◌, nat_lt}
+use Rattle.std.specs.Option.{option_or}
 use Rattle.vault.specs.Checks.{first_of}
 use Rattle.rules.specs.declared.cause.Cause.{Cause}
 use Rattle.rules.specs.declared.cause.Cause.TheVariants.{OutOfBounds}
@@ -14,10 +15,9 @@ admins = 0
 abbrev pub opening_refusal : ℕ → Option Cause
 opening_refusal caller = first_of ((nat_lt 17 caller, OutOfBounds) ∷ [])
 
--- the first refusal, else the other
-abbrev pub or_else : Option Cause → Option Cause → Option Cause
-or_else (Some cause) other = Some cause
-or_else None other = other
+-- a call comes in a session that its caller has opened
+abbrev pub in_session : ℕ → Option Cause → Option Cause
+in_session caller refusal = option_or (opening_refusal caller) refusal
 
 -- User r + 1 owns row r where it is single-user, and Admins own any other
 abbrev pub owner : ℕ → Row → ℕ

@@ -1,6 +1,6 @@
 -- What a sheet can describe: a drive that is in order, over a vault that holds its keys.
 use Rattle.std.specs.Prelude.{◌≡◌, ℕ, ◌+◌, ◌^◌, ◌<◌, ◌≤◌, Bool, true, false, ◌&&◌, ◌||◌, List, ◌++◌, map, length, ◌==◌, nat_le, nat_lt}
-use Rattle.std.specs.List.{AllByRecursion}
+use Rattle.std.specs.List.{AllByRecursion, list_any}
 use Rattle.packed.specs.Rising.{rises}
 use Rattle.vault.specs.Kinds.{can_be_capacity}
 use Rattle.vault.specs.Meaning.{Meaning, sound}
@@ -13,8 +13,7 @@ use Rattle.rules.specs.declared.row.Sought.{Sought}
 use Rattle.rules.specs.declared.row.Sought.TheVariants.{UnitRowOf, RangeOver}
 use Rattle.rules.specs.declared.unit.LogicalUnit.{LogicalUnit}
 use Rattle.rules.specs.Drive.{Drive}
-use Rattle.rules.specs.Questions.{key_or}
-use Rattle.rules.specs.Rows.{blank, row, is_free, is_single_user, suits, is_there, any_row}
+use Rattle.rules.specs.Rows.{blank, row, is_free, is_single_user, suits, is_there, key_or}
 use Rattle.rules.specs.Units.{valid, exists, unit}
 
 -- ---- units
@@ -77,7 +76,7 @@ pub record SoundKeys (next : ℕ) (vault : Meaning) (words : List ℕ) : Type 0 
 -- ---- the drive
 -- policy 1, or policy 0 beside a row in Single User Mode
 abbrev pub policy_fits : ℕ → List Row → Bool
-policy_fits policy rows = policy == 1 || (policy == 0 && any_row (λ r. is_single_user r.standing) rows)
+policy_fits policy rows = policy == 1 || (policy == 0 && list_any (λ r. is_single_user r.standing) rows)
 
 pub record Sound (d : Drive) : Type 0 where
   pub usable : d.closed ≡ false

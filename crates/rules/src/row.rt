@@ -1,5 +1,5 @@
 ghost use Rattle.std.specs.Prelude.{◌≡◌};
-ghost use Rattle.rules.specs.Rows.{locked, suits, free_of, shares};
+ghost use Rattle.rules.specs.Rows.{locked, suits, shares};
 
 /// The five lock flags of a row.
 #[derive(Clone, Copy, PartialEq, Eq)]
@@ -79,20 +79,12 @@ pub struct RowFields {
 /// What a search over the rows looks for.
 #[derive(Clone, Copy)]
 pub enum Sought {
+    FreeRow { standing: Standing },
     UnitRowOf { unit: u32 },
     RangeOver { unit: u32, block: u64 },
     RangeRowOf { unit: u32 },
     /// A range row of the unit that shares a block with this range.
     RangeSharing { unit: u32, start: u64, length: u64 },
-}
-
-impl Row {
-    /// Whether the row is free, with this standing.
-    pub fn is_free(&self, standing: Standing) -> bool
-        ensures { result ≡ free_of standing self.now }
-    {
-        matches!(self.kind, Kind::Free) && self.standing == standing
-    }
 }
 
 /// Whether two ranges have a block in common: where the later one starts, neither has ended.
@@ -112,6 +104,7 @@ impl Sought {
         ensures { result ≡ suits self row.now }
     {
         match (self, row.kind) {
+            (Sought::FreeRow { standing }, Kind::Free) => row.standing == standing,
             (Sought::UnitRowOf { unit }, Kind::UnitRow { unit: u }) => u == unit,
             (Sought::RangeRowOf { unit }, Kind::RangeRow { unit: u, .. }) => u == unit,
             (
