@@ -1,5 +1,5 @@
 // What the definitions say of the steps is computed, so a proof opens the recursive ones.
-#![tactic(auto, unfolding(packed::specs::First::first, packed::specs::Rising::change, packed::specs::Rising::has, packed::specs::Rising::insert, packed::specs::Rising::lookup, packed::specs::Rising::remove, rules::specs::FreshKeys::fresh_keys, rules::specs::MoreQuestions::first_from, rules::specs::Rows::all_rows, rules::specs::Rows::some_locked))]
+#![tactic(auto, unfolding(packed::specs::First::first, packed::specs::Rising::change, packed::specs::Rising::has, packed::specs::Rising::insert, packed::specs::Rising::lookup, packed::specs::Rising::remove, rules::specs::FreshKeys::fresh_keys, rules::specs::Rows::all_rows))]
 
 ghost use Rattle.cases.specs.Sequence.{Given, Stage, AllGiven};
 ghost use Rattle.cases.specs.Drives.{nvme_start, after_units_made, after_ranges_cut, after_ranges_moved, after_rows_given_up, after_keys_renewed, after_range_locked, scsi_start};

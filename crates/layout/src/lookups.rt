@@ -1,6 +1,6 @@
 ghost use Rattle.std.specs.Prelude.{◌≡◌, ◌<◌};
-ghost use Rattle.rules.specs.Rows.{row, locked};
-ghost use Rattle.rules.specs.Questions.{controlling_row, control_of};
+ghost use Rattle.rules.specs.Rows.{row, locked, controlling_row};
+ghost use Rattle.rules.specs.Questions.{control_of};
 
 use crate::content::Layout;
 use rules::row::{Kind, Sought};

@@ -51,7 +51,7 @@ alike-on d e f p q = record {
   grows = omega (arith, p.grows, q.grows);
 }
 
-alike-fresh : (d : Drive) (holder : Holder) → Alike d (fresh_key d holder)
+pub alike-fresh : (d : Drive) (holder : Holder) → Alike d (fresh_key d holder)
 alike-fresh d (TheUnit n) = record {
   long = refl;
   kinds = λ i. refl;

@@ -13,7 +13,7 @@ use Rattle.rules.specs.declared.unit.LogicalUnit.{LogicalUnit}
 use Rattle.rules.specs.Drive.{Drive, kind_of}
 use Rattle.rules.specs.FreshKeys.{key_of, HasKey, fresh_key, fresh_keys, units_under_global}
 use Rattle.rules.specs.Laws.{block_key}
-use Rattle.rules.specs.Rows.{row, is_range_row, covers, unit_row_of, range_over, lowest_row, is_there, controlling_row, key_or}
+use Rattle.rules.specs.Rows.{row, is_range_row, key_or, covers, unit_row_of, range_over, lowest_row, is_there, controlling_row}
 use Rattle.rules.specs.Sound.{row_fits, SoundRows, Sound}
 use Rattle.rules.specs.Units.{no_unit, exists, unit}
 use Rattle.rules.proofs.Holders.{key-held}

@@ -16,7 +16,7 @@ use Rattle.rules.specs.declared.unit.LogicalUnit.{LogicalUnit}
 use Rattle.rules.specs.Drive.{Drive, kind_of}
 use Rattle.rules.specs.FreshKeys.{key_of, HasKey, fresh_key, fresh_keys, units_under_global, holders_of, unit_and_ranges}
 use Rattle.rules.specs.Meanings.{KeyedInOrder, FreshKeysInOrder}
-use Rattle.rules.specs.Rows.{no_row, row, is_range_row, with_serial, suits, is_there, all_rows, key_or}
+use Rattle.rules.specs.Rows.{no_row, row, is_range_row, key_or, with_serial, suits, is_there, all_rows}
 use Rattle.rules.specs.Sound.{Sound}
 use Rattle.rules.proofs.Renewals.{range-parts, keyed-serial, rekeyed_row, valid-kept, valid-of-row, valid-of-unit}
 use Rattle.rules.proofs.Numbered.{all-more}

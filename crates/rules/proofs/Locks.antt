@@ -24,17 +24,17 @@ use Rattle.rules.specs.declared.unit.Holder.TheVariants.{TheUnit, TheRow}
 use Rattle.rules.specs.declared.unit.LogicalUnit.{LogicalUnit}
 use Rattle.rules.specs.Calls.{refusal, left, said, after, Answer, answer}
 use Rattle.rules.specs.Commands.{create_checks, create_refusal, new_unit, created, deleted, formatted, was_reset}
-use Rattle.rules.specs.Drive.{Drive, row_of, kind_of, row_locked}
-use Rattle.rules.specs.FreshKeys.{fresh_keys, holders_of, unit_and_ranges}
+use Rattle.rules.specs.Drive.{Drive, row_of, kind_of, unit_of, row_locked}
+use Rattle.rules.specs.FreshKeys.{fresh_key, fresh_keys, holders_of, unit_and_ranges}
 use Rattle.rules.specs.Laws.{has_block, block_key, FreshlyKeyed, SetByOwner}
-use Rattle.rules.specs.Methods.{assign_refusal, row_to_take, unit_row_assigned, range_row_assigned, assigned, range_rows_remain, deassign_checks, freed, given_up, unit_row_locked, set_range_checks, range_set, set_locks_checks, set_locks_refusal, locks_set, key_generated, erased, reactivate_checks, reactivated}
+use Rattle.rules.specs.Methods.{assign_refusal, row_to_take, unit_row_assigned, range_row_assigned, assigned, deassign_checks, freed, given_up, set_range_checks, range_set, set_locks_checks, set_locks_refusal, locks_set, key_generated, erased, reactivate_checks, reactivated}
 use Rattle.rules.specs.Questions.{block_locked}
-use Rattle.rules.specs.Rows.{blank, locked_for, locked, lock_enabled, relocked, no_row, row, is_free, with_serial, with_range, with_flags, with_kind, anew, unit_row_of, range_row_of, range_over, suits, lowest_row, is_there, row_under, controlling_row, key_or}
+use Rattle.rules.specs.Rows.{blank, locked_for, locked, lock_enabled, relocked, no_row, row, is_free, is_a_unit_row, unit_or, key_or, with_serial, with_range, with_flags, with_kind, anew, unit_row_of, range_row_of, range_over, suits, lowest_row, is_there, row_under, controlling_row}
 use Rattle.rules.specs.Sessions.{in_session, owner}
 use Rattle.rules.specs.Sound.{is_global, Sound}
 use Rattle.rules.specs.Units.{no_unit, exists, unit, with_unit, without_unit}
 use Rattle.rules.proofs.Accepted.{opened, passed, passed-in}
-use Rattle.rules.proofs.Alike.{Alike, alike-renewed, alike-control}
+use Rattle.rules.proofs.Alike.{alike-fresh, Alike, alike-renewed, alike-control}
 use Rattle.rules.proofs.Blocks.{key-is, control-is, control-other, control-global, key-new, key-given, renewed-key, under-global}
 use Rattle.rules.proofs.Lookups.{lookup-insert, lookup-remove, has-remove-other, has-remove-same}
 use Rattle.rules.proofs.Renewals.{range-parts, rekeyed_row}
@@ -243,7 +243,7 @@ module _ (access : Access) (n block : ℕ) where
       ]
 
   -- a row that is given up was open, and so is what takes its blocks over
-  given-up-opens : (d : Drive) (r : ℕ) (keep : Bool) (kind : Kind) → Sound d → kind_of d r ≡ kind → range_rows_remain d.rows kind ≡ false → row_locked d r ≡ false
+  given-up-opens : (d : Drive) (r : ℕ) (keep : Bool) (kind : Kind) → Sound d → kind_of d r ≡ kind → (is_a_unit_row kind && is_there (RangeRowOf (unit_or kind d.numbering.mark)) d.rows) ≡ false → row_locked d r ≡ false
       → shut_to d ≡ true → shut_to (given_up d r keep kind) ≡ false → ⊥
   given-up-opens d r keep Free h e none u t f = both_ways (shut_to d) f t
   given-up-opens d r keep Global h e none u t f = both_ways (shut_to d) f t
@@ -254,8 +254,8 @@ module _ (access : Access) (n block : ℕ) where
         | inr off ↦ nothing d (given_up d r keep (RangeRow k s l q)) refl (elsewhere d h r x (not-global d h r (ap is_global e)) off refl (ap (unit_row_of n) e) refl) t f
       ]
   given-up-opens d r keep (UnitRow k) h e none u t f = freed-opens (elim (cases_Bool keep) [
-    | inl y ↦ subst (λ b. shut_to (cond b (freed d r) (fresh_keys (freed d r) (TheUnit k ∷ []))) ≡ false) y f
-    | inr y ↦ sym (alike-shut (freed d r) (fresh_keys (freed d r) (TheUnit k ∷ [])) (alike-renewed (freed d r) (TheUnit k ∷ []))) ∙ subst (λ b. shut_to (cond b (freed d r) (fresh_keys (freed d r) (TheUnit k ∷ []))) ≡ false) y f
+    | inl y ↦ subst (λ b. shut_to (cond b (freed d r) (fresh_key (freed d r) (TheUnit k))) ≡ false) y f
+    | inr y ↦ sym (alike-shut (freed d r) (fresh_key (freed d r) (TheUnit k)) (alike-fresh (freed d r) (TheUnit k))) ∙ subst (λ b. shut_to (cond b (freed d r) (fresh_key (freed d r) (TheUnit k))) ≡ false) y f
   ])
     where
       freed-opens : shut_to (freed d r) ≡ false → ⊥
@@ -380,8 +380,8 @@ module _ (access : Access) (n block : ℕ) where
   left-opens d (SetRange caller r start len) h s e t f =
       let p = passed-in d (set_range_checks d caller r start len) caller e in
       let q = range-parts (kind_of d r) (not-false _ p.1.1.0) in
-      let o = or_parts (row_locked d r) (unit_row_locked d (kind_of d r)) p.1.1.1.1.1.1.0 in
-      absurd (set-range-opens d r start len q.0 q.1 q.2 q.3 h s q.4 o.0 (subst (λ k. unit_row_locked d k ≡ false) q.4 o.1) t f)
+      let o = or_parts (row_locked d r) (row_locked d (row_under d.rows (unit_of d r))) p.1.1.1.1.1.1.0 in
+      absurd (set-range-opens d r start len q.0 q.1 q.2 q.3 h s q.4 o.0 (ap (λ k. row_locked d (row_under d.rows (unit_or k d.numbering.mark))) (sym q.4) ∙ o.1) t f)
   left-opens d (SetLocks caller r flags) h s e t f = inr (set-locks-opens d caller r flags e t f)
   left-opens d (GenKey caller r) h s e t f = absurd (alike-opens d (key_generated d r) (alike-renewed d (holders_of d r (kind_of d r))) t f)
   left-opens d (Erase caller r) h s e t f = inl (erase-opens d r h s t f)

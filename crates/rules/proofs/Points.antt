@@ -14,7 +14,7 @@ use Rattle.rules.specs.declared.row.Sought.TheVariants.{UnitRowOf}
 use Rattle.rules.specs.declared.unit.LogicalUnit.{LogicalUnit}
 use Rattle.rules.specs.Drive.{Drive, kind_of}
 use Rattle.rules.specs.Laws.{RangesInOrder, range_rows, OneKeyEach}
-use Rattle.rules.specs.Rows.{row, is_range_row, covers, unit_row_of, range_over, key_or}
+use Rattle.rules.specs.Rows.{row, is_range_row, key_or, covers, unit_row_of, range_over}
 use Rattle.rules.specs.Sound.{unit_fits, row_fits, serial_of, row_key, Sound}
 use Rattle.rules.specs.Units.{valid}
 use Rattle.rules.proofs.Blocks.{unit-row-is}

@@ -22,7 +22,7 @@ use Rattle.rules.specs.declared.unit.LogicalUnit.{LogicalUnit}
 use Rattle.rules.specs.Drive.{Drive}
 use Rattle.rules.specs.FreshKeys.{key_of, HasKey, fresh_key, fresh_keys, units_under_global, holders_of, unit_and_ranges}
 use Rattle.rules.specs.Requests.{NoneRefused, swaps}
-use Rattle.rules.specs.Rows.{row, is_free, is_range_row, with_serial, is_single_user, with_kind, unit_row_of, range_row_of, range_over, suits, is_there, all_rows, key_or}
+use Rattle.rules.specs.Rows.{row, is_free, is_range_row, key_or, with_serial, is_single_user, with_kind, unit_row_of, range_row_of, range_over, suits, is_there, all_rows}
 use Rattle.rules.specs.Sound.{unit_fits, SoundUnits, is_global, row_fits, serials, Sound}
 use Rattle.rules.specs.Units.{valid, no_unit, exists, unit, with_key}
 use Rattle.rules.proofs.Keys.{keys-as, swap-capacity, swap-done, swap-keys}

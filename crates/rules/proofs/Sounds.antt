@@ -20,15 +20,15 @@ use Rattle.rules.specs.declared.unit.LogicalUnit.{LogicalUnit}
 use Rattle.rules.specs.Commands.{create_checks, create_refusal, new_unit, created, delete_checks, delete_refusal, deleted, formatted, was_reset}
 use Rattle.rules.specs.Drive.{Drive, with_rows, with_policy, row_of, kind_of, unused_keys}
 use Rattle.rules.specs.FreshKeys.{holders_of, unit_and_ranges}
-use Rattle.rules.specs.Methods.{row_to_take, taken, unit_row_assigned, range_row_assigned, range_rows_remain, freed, given_up, range_set, locks_set, key_generated, reactivated_row, reactivated}
+use Rattle.rules.specs.Methods.{row_to_take, taken, unit_row_assigned, range_row_assigned, freed, given_up, range_set, locks_set, key_generated, reactivated_row, reactivated}
 use Rattle.rules.specs.Requests.{Put, Drop, NoneRefused, swaps, requests_of_deassign}
-use Rattle.rules.specs.Rows.{blank, relocked, no_row, row, is_free, is_a_unit_row, with_range, is_single_user, with_flags, with_kind, anew, covers, unit_row_of, range_row_of, range_over, is_there, key_or}
+use Rattle.rules.specs.Rows.{blank, relocked, no_row, row, is_free, is_a_unit_row, unit_or, key_or, with_range, is_single_user, with_flags, with_kind, anew, covers, unit_row_of, range_row_of, range_over, is_there}
 use Rattle.rules.specs.Sound.{unit_fits, is_global, row_fits, SoundRows, serial_of, row_key, serials, policy_fits, Sound}
 use Rattle.rules.specs.Units.{valid, no_unit, exists, unit, with_unit, without_unit}
 use Rattle.rules.proofs.Accepted.{passed}
 use Rattle.rules.proofs.Keys.{keys-as, put-capacity, drop-capacity, put-done, put-keys, drop-done, drop-keys, collect-unit, collect-without, filled, cleared}
 use Rattle.rules.proofs.Lookups.{lookup-insert, lookup-remove, has-remove-other, all_insert, all_remove}
-use Rattle.rules.proofs.Renewals.{unit-key, renewed-sound, valid-of-row, valid-of-unit}
+use Rattle.rules.proofs.Renewals.{fresh-sound, unit-key, renewed-sound, valid-of-row, valid-of-unit}
 use Rattle.rules.proofs.RowsKept.{any_same, any_at, within, in_table, none-at, kind-free, over-apart, fits-exists, fits_under, fits-key, rows-unit-row, rows-range, rows-free, rows_alike, rows-units}
 use Rattle.rules.proofs.Searches.{missed, at_there, not_there, set-alike, unwritten, each_row}
 use Rattle.rules.proofs.Numbered.{each_row_by, length-each, row-each, each-alike}
@@ -256,13 +256,12 @@ module _ (d : Drive) (h : Sound d) where
       let q : eqb m n ≡ false = sym (ap (range_row_of n) f) ∙ none-at d.units d.rows h.rows (RangeRowOf n) refl none i in
       ap (unit_row_of m) e ∙ (let y : eqb n m ≡ false = grind (arith, nat_tests) in y)))
 
-  pub given-up-sound : (r : ℕ) (keep : Bool) (kind : Kind) → kind_of d r ≡ kind → range_rows_remain d.rows kind ≡ false → ((is_a_unit_row kind && not keep) && ltb 4294967295 (d.next + 1)) ≡ false
+  pub given-up-sound : (r : ℕ) (keep : Bool) (kind : Kind) → kind_of d r ≡ kind → (is_a_unit_row kind && is_there (RangeRowOf (unit_or kind d.numbering.mark)) d.rows) ≡ false → ((is_a_unit_row kind && not keep) && ltb 4294967295 (d.next + 1)) ≡ false
       → Sound (given_up d r keep kind) × NoneRefused d.vault (requests_of_deassign d keep kind) (given_up d r keep kind).vault
-  unfolding swaps
   given-up-sound r keep Free e none last = (h, refl)
   given-up-sound r keep Global e none last = (h, refl)
   given-up-sound r true (UnitRow n) e none last = (freed-unit r n e none, refl)
-  given-up-sound r false (UnitRow n) e none last = renewed-sound (freed d r) (TheUnit n ∷ []) (freed-unit r n e none) (ap (row_fits d.units d.rows) (sym e) ∙ h.rows.each r, tt) (omega (arith, ltb-false 4294967295 (d.next + 1) last))
+  given-up-sound r false (UnitRow n) e none last = let f = fresh-sound (freed d r) (freed-unit r n e none) (omega (arith, ltb-false 4294967295 (d.next + 1) last)) (TheUnit n) (ap (row_fits d.units d.rows) (sym e) ∙ h.rows.each r) in (f.0, (f.1, refl))
   given-up-sound r keep (RangeRow n s l k) e none last = freed-range r n s l k e
 
   -- ---- fresh keys

@@ -1,20 +1,20 @@
 -- One call, of any kind: what it keeps.
-use Rattle.std.proofs.Common.{◌≡◌, ℕ, ◌^◌, Bool, true, false, cond, ltb, leb, List, [], ◌∷◌, Some, None, Option, sym, refl, ◌∙◌, subst, inl, inr}
+use Rattle.std.proofs.Common.{◌≡◌, ℕ, ◌^◌, Bool, true, false, cond, ltb, leb, List, [], ◌∷◌, Some, None, Option, sym, refl, ap, ◌∙◌, subst, inl, inr}
 use Rattle.std.proofs.lemmas.Bool.{cases_Bool, not-false, or_parts}
 use Rattle.vault.specs.Checks.{unless}
 use Rattle.rules.specs.declared.call.Call.{Call}
 use Rattle.rules.specs.declared.call.Call.TheVariants.{Assign, Deassign, SetRange, SetLocks, GenKey, Erase, Reactivate, Create, Delete, Format, Reset}
 use Rattle.rules.specs.declared.cause.Cause.{Cause}
-use Rattle.rules.specs.declared.row.Kind.TheVariants.{RangeRow}
+use Rattle.rules.specs.declared.row.Kind.TheVariants.{Free}
 use Rattle.rules.specs.declared.row.Sought.TheVariants.{UnitRowOf}
 use Rattle.rules.specs.declared.row.Standing.{Standing}
 use Rattle.rules.specs.Calls.{refusal, left, after}
 use Rattle.rules.specs.Commands.{format_checks}
-use Rattle.rules.specs.Drive.{Drive, kind_of}
+use Rattle.rules.specs.Drive.{Drive, kind_of, unit_of}
 use Rattle.rules.specs.FreshKeys.{holders_of}
-use Rattle.rules.specs.Methods.{unit_row_checks, range_row_checks, assign_checks, assign_refusal, unit_row_assigned, range_row_assigned, assigned, deassign_checks, ends_past, shares_with_other, set_range_checks, set_range_refusal, range_set, set_locks_checks, gen_key_checks, key_generated, erase_checks, reactivate_checks}
+use Rattle.rules.specs.Methods.{ends_past, shares_block, unit_row_checks, range_row_checks, assign_checks, assign_refusal, taken, unit_row_assigned, range_row_assigned, assigned, deassign_checks, set_range_checks, set_range_refusal, range_set, set_locks_checks, gen_key_checks, key_generated, erase_checks, reactivate_checks}
 use Rattle.rules.specs.Requests.{Request, Put, NoneRefused, requests}
-use Rattle.rules.specs.Rows.{blank, is_there}
+use Rattle.rules.specs.Rows.{blank, unit_or, is_there}
 use Rattle.rules.specs.Sound.{Sound}
 use Rattle.rules.specs.Units.{exists}
 use Rattle.vault.proofs.Checks.{Passed}
@@ -53,8 +53,9 @@ module _ (d : Drive) (h : Sound d) where
   set-range-kept caller r start len e =
       let p = passed d (set_range_checks d caller r start len) e in
       let q = range-parts (kind_of d r) (not-false _ p.1.1.0) in
-      let past : ends_past d start len (RangeRow q.0 q.1 q.2 q.3) ≡ false = subst (λ k. ends_past d start len k ≡ false) q.4 p.1.1.1.1.0 in
-      let sharing : shares_with_other d r start len (RangeRow q.0 q.1 q.2 q.3) ≡ false = subst (λ k. shares_with_other d r start len k ≡ false) q.4 p.1.1.1.1.1.0 in
+      let is : unit_of d r ≡ q.0 = ap (λ k. unit_or k d.numbering.mark) q.4 in
+      let past : ends_past d q.0 start len ≡ false = ap (λ n. ends_past d n start len) (sym is) ∙ p.1.1.1.1.0 in
+      let sharing : shares_block (taken d r Free) q.0 start len ≡ false = ap (λ n. shares_block (taken d r Free) n start len) (sym is) ∙ p.1.1.1.1.1.0 in
       range-set-sound d h r start len q.0 q.1 q.2 q.3 q.4 past sharing
 
   pub left-kept : (c : Call) → refusal d c ≡ None → Kept d (requests d c) (left d c)

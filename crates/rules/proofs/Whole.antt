@@ -28,7 +28,7 @@ use Rattle.rules.specs.Questions.{block_locked}
 use Rattle.rules.specs.Requests.{Request, Put, Swap, Drop, vault_after, NoneRefused, swaps, requests_of_deassign, requests}
 use Rattle.rules.specs.Rows.{is_there}
 use Rattle.rules.specs.Sound.{Sound}
-use Rattle.rules.proofs.Alike.{alike-renewed}
+use Rattle.rules.proofs.Alike.{alike-fresh, alike-renewed}
 use Rattle.rules.proofs.Beginnings.{fresh-sound}
 use Rattle.rules.proofs.Locks.{shut_to, Way, after-opens}
 use Rattle.rules.proofs.Points.{ranges-of, keys_of}
@@ -104,7 +104,7 @@ left-grows d (Deassign caller r keep) = go keep (kind_of d r)
     go keep Free = omega arith
     go keep Global = omega arith
     go true (UnitRow u) = omega arith
-    go false (UnitRow u) = (alike-renewed (freed d r) (TheUnit u ∷ [])).grows
+    go false (UnitRow u) = (alike-fresh (freed d r) (TheUnit u)).grows
     go keep (RangeRow u s l k) = omega arith
 left-grows d (SetRange caller r start len) = omega arith
 left-grows d (SetLocks caller r flags) = omega arith

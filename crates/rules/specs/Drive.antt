@@ -8,7 +8,7 @@ use Rattle.rules.specs.declared.numbering.Bounds.{Bounds}
 use Rattle.rules.specs.declared.row.Kind.{Kind}
 use Rattle.rules.specs.declared.row.Row.{Row}
 use Rattle.rules.specs.declared.unit.LogicalUnit.{LogicalUnit}
-use Rattle.rules.specs.Rows.{row, locked, is_single_user}
+use Rattle.rules.specs.Rows.{row, locked, unit_or, is_single_user}
 
 pub record Drive : Type 0 where
   -- laid out over a vault, or from a sheet, that could not serve
@@ -41,6 +41,10 @@ row_of d r = row r d.rows
 
 abbrev pub kind_of : Drive → ℕ → Kind
 kind_of d r = (row_of d r).kind
+
+-- its unit, or the mark where it has none
+abbrev pub unit_of : Drive → ℕ → ℕ
+unit_of d r = unit_or (kind_of d r) d.numbering.mark
 
 abbrev pub single_user : Drive → ℕ → Bool
 single_user d r = is_single_user (row_of d r).standing

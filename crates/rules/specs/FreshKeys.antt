@@ -41,12 +41,16 @@ fresh_keys d holders = after_by fresh_key d holders
 abbrev pub units_under_global : List Row → List LogicalUnit → List Holder
 units_under_global rows units = map (λ u. TheUnit u.number) (filter (λ u. not (is_there (UnitRowOf u.number) rows)) units)
 
--- by GenKey of a row: the range row; the unit of a unit row; for row 0 every unit without a unit row
+-- by GenKey of a row of this kind: the range row; the unit of a unit row; for row 0 every unit without a unit row
 abbrev pub holders_of : Drive → ℕ → Kind → List Holder
 holders_of d r Free = []
 holders_of d r Global = units_under_global d.rows d.units
 holders_of d r (UnitRow u) = TheUnit u ∷ []
 holders_of d r (RangeRow u start length serial) = TheRow r ∷ []
+
+-- what row r stands for
+abbrev pub stands_for : Drive → ℕ → List Holder
+stands_for d r = holders_of d r (kind_of d r)
 
 -- by Format of a unit: the unit, then its range rows in rising order
 abbrev pub unit_and_ranges : Drive → ℕ → List Holder

@@ -1,5 +1,5 @@
 -- The methods, through a writing session of a caller: for each its checks in their order, what it leaves, and what it answers.
-use Rattle.std.specs.Prelude.{ℕ, ◌+◌, ◌/◌, ◌%◌, ◌^◌, Bool, false, cond, not, ◌&&◌, ◌||◌, List, [], ◌∷◌, map, length, Option, Result, ◌==◌, count_ones, nat_le, nat_lt}
+use Rattle.std.specs.Prelude.{ℕ, ◌+◌, ◌/◌, ◌%◌, ◌^◌, Bool, cond, not, ◌&&◌, ◌||◌, List, [], ◌∷◌, map, length, Option, Result, ◌==◌, count_ones, nat_le, nat_lt}
 use Rattle.std.specs.List.{list_any}
 use Rattle.std.specs.Option.{unwrap_or}
 use Rattle.vault.specs.Checks.{answer, unless}
@@ -15,11 +15,20 @@ use Rattle.rules.specs.declared.row.Standing.{Standing}
 use Rattle.rules.specs.declared.row.Standing.TheVariants.{Shared, SingleUser}
 use Rattle.rules.specs.declared.unit.Holder.TheVariants.{TheUnit}
 use Rattle.rules.specs.Causes.{Done}
-use Rattle.rules.specs.Drive.{Drive, with_rows, with_policy, with_vault, row_of, kind_of, single_user, row_locked, spent, run_out, unused_keys, refused_by}
-use Rattle.rules.specs.FreshKeys.{fresh_keys, holders_of}
+use Rattle.rules.specs.Drive.{Drive, with_rows, with_policy, with_vault, row_of, kind_of, unit_of, single_user, row_locked, spent, run_out, unused_keys, refused_by}
+use Rattle.rules.specs.FreshKeys.{fresh_key, fresh_keys, stands_for}
 use Rattle.rules.specs.Rows.{blank, lock_enabled, is_free, is_a_unit_row, is_range_row, with_range, with_row, with_flags, with_kind, anew, lowest_row, is_there, numbered, row_under}
 use Rattle.rules.specs.Sessions.{admins, owner, mover, is_not}
 use Rattle.rules.specs.Units.{exists, unit}
+
+-- ---- ranges of a unit's blocks
+-- a range ends past its unit
+abbrev pub ends_past : Drive → ℕ → ℕ → ℕ → Bool
+ends_past d n start length = nat_lt (unit n d.units).blocks (start + length)
+
+-- it shares a block with a range row of the unit
+abbrev pub shares_block : List Row → ℕ → ℕ → ℕ → Bool
+shares_block rows n start length = is_there (RangeSharing n start length) rows
 
 -- ---- Assign: a row for a unit, or for a range of a unit that has one
 -- the first Assign of a unit gives it a unit row
@@ -34,8 +43,8 @@ unit_row_checks d start length standing =
 -- any other gives it a range row
 abbrev pub range_row_checks : Drive → ℕ → ℕ → ℕ → Standing → List (Bool × Cause)
 range_row_checks d n start length standing =
-    (nat_lt (unit n d.units).blocks (start + length), PastUnit)
-    ∷ (is_there (RangeSharing n start length) d.rows, SharesBlock)
+    (ends_past d n start length, PastUnit)
+    ∷ (shares_block d.rows n start length, SharesBlock)
     ∷ (single_user d (row_under d.rows n), SingleUserInTheWay)
     ∷ (row_locked d (row_under d.rows n), Locked)
     ∷ (not (is_there (FreeRow standing) d.rows), NoFreeRow)
@@ -56,7 +65,7 @@ assign_refusal d caller n start length standing = refused_by d (assign_checks d 
 abbrev pub row_to_take : Drive → Standing → ℕ
 row_to_take d standing = unwrap_or (lowest_row (FreeRow standing) d.rows) 0
 
--- a row that was free is taken
+-- row r becomes one of this kind, with blank flags
 abbrev pub taken : Drive → ℕ → Kind → List Row
 taken d r kind = with_row r (anew kind (row_of d r)) d.rows
 
@@ -84,19 +93,9 @@ abbrev pub assign_answer : Drive → ℕ → ℕ → ℕ → ℕ → Standing �
 assign_answer d caller n start length standing = answer (assign_refusal d caller n start length standing) (assigned_row d n standing)
 
 -- ---- Deassign: a row is given up
--- what takes its blocks over: row 0 for a unit row, the unit row for a range row
-abbrev pub receiver : List Row → Kind → ℕ
-receiver rows Free = 0
-receiver rows Global = 0
-receiver rows (UnitRow u) = 0
-receiver rows (RangeRow u start length serial) = row_under rows u
-
--- range rows stand under it
-abbrev pub range_rows_remain : List Row → Kind → Bool
-range_rows_remain rows Free = false
-range_rows_remain rows Global = false
-range_rows_remain rows (UnitRow u) = is_there (RangeRowOf u) rows
-range_rows_remain rows (RangeRow u start length serial) = false
+-- what takes its blocks over: the unit row of its unit for a range row, row 0 for a unit row
+abbrev pub receiver : Drive → ℕ → ℕ
+receiver d r = cond (is_range_row (kind_of d r)) (row_under d.rows (unit_of d r)) 0
 
 abbrev pub deassign_checks : Drive → ℕ → ℕ → Bool → List (Bool × Cause)
 deassign_checks d caller r keep =
@@ -104,10 +103,10 @@ deassign_checks d caller r keep =
     ∷ (is_free (kind_of d r), RowFree)
     ∷ ((r == 0), WrongKind)
     ∷ (is_not caller admins, CallerNotAllowed)
-    ∷ (single_user d r || single_user d (receiver d.rows (kind_of d r)), SingleUserInTheWay)
+    ∷ (single_user d r || single_user d (receiver d r), SingleUserInTheWay)
     ∷ (keep && is_range_row (kind_of d r), KeepOnRange)
-    ∷ (range_rows_remain d.rows (kind_of d r), RangeRowsRemain)
-    ∷ (row_locked d r || row_locked d (receiver d.rows (kind_of d r)), Locked)
+    ∷ (is_a_unit_row (kind_of d r) && is_there (RangeRowOf (unit_of d r)) d.rows, RangeRowsRemain)
+    ∷ (row_locked d r || row_locked d (receiver d r), Locked)
     ∷ ((is_a_unit_row (kind_of d r) && not keep) && run_out 1 d, SerialsRunOut)
     ∷ []
 
@@ -122,7 +121,7 @@ freed d r = with_rows (taken d r Free) d
 abbrev pub given_up : Drive → ℕ → Bool → Kind → Drive
 given_up d r keep Free = d
 given_up d r keep Global = d
-given_up d r keep (UnitRow u) = cond keep (freed d r) (fresh_keys (freed d r) (TheUnit u ∷ []))
+given_up d r keep (UnitRow u) = cond keep (freed d r) (fresh_key (freed d r) (TheUnit u))
 given_up d r keep (RangeRow u start length serial) = with_vault (drop_after d.vault serial) (freed d r)
 
 abbrev pub deassigned : Drive → ℕ → Bool → Drive
@@ -134,37 +133,16 @@ deassign_after d caller r keep = unless (deassign_refusal d caller r keep) d (de
 abbrev pub deassign_answer : Drive → ℕ → ℕ → Bool → Done
 deassign_answer d caller r keep = answer (deassign_refusal d caller r keep) tt
 
--- ---- SetRange: a range row over other blocks
--- the range would end past the row's unit
-abbrev pub ends_past : Drive → ℕ → ℕ → Kind → Bool
-ends_past d start length Free = false
-ends_past d start length Global = false
-ends_past d start length (UnitRow u) = false
-ends_past d start length (RangeRow u old_start old_length serial) = nat_lt (unit u d.units).blocks (start + length)
-
--- it would share a block with another range row of the unit: one among the rows with this one free
-abbrev pub shares_with_other : Drive → ℕ → ℕ → ℕ → Kind → Bool
-shares_with_other d r start length Free = false
-shares_with_other d r start length Global = false
-shares_with_other d r start length (UnitRow u) = false
-shares_with_other d r start length (RangeRow u old_start old_length serial) = is_there (RangeSharing u start length) (taken d r Free)
-
--- the unit row of the row's unit is locked
-abbrev pub unit_row_locked : Drive → Kind → Bool
-unit_row_locked d Free = false
-unit_row_locked d Global = false
-unit_row_locked d (UnitRow u) = false
-unit_row_locked d (RangeRow u start length serial) = row_locked d (row_under d.rows u)
-
+-- ---- SetRange: a range row over other blocks; its own old range does not count, so that the row is looked at as if it were free
 abbrev pub set_range_checks : Drive → ℕ → ℕ → ℕ → ℕ → List (Bool × Cause)
 set_range_checks d caller r start length =
     (nat_lt 16 r, NoSuchRow)
     ∷ (is_free (kind_of d r), RowFree)
     ∷ (not (is_range_row (kind_of d r)), WrongKind)
     ∷ (is_not caller (mover d.policy r (row_of d r)), CallerNotAllowed)
-    ∷ (ends_past d start length (kind_of d r), PastUnit)
-    ∷ (shares_with_other d r start length (kind_of d r), SharesBlock)
-    ∷ (row_locked d r || unit_row_locked d (kind_of d r), Locked)
+    ∷ (ends_past d (unit_of d r) start length, PastUnit)
+    ∷ (shares_block (taken d r Free) (unit_of d r) start length, SharesBlock)
+    ∷ (row_locked d r || row_locked d (row_under d.rows (unit_of d r)), Locked)
     ∷ []
 
 abbrev pub set_range_refusal : Drive → ℕ → ℕ → ℕ → ℕ → Option Cause
@@ -206,14 +184,14 @@ gen_key_checks d caller r =
     (nat_lt 16 r, NoSuchRow)
     ∷ (is_free (kind_of d r), RowFree)
     ∷ (is_not caller (owner r (row_of d r)), CallerNotAllowed)
-    ∷ (run_out (length (holders_of d r (kind_of d r))) d, SerialsRunOut)
+    ∷ (run_out (length (stands_for d r)) d, SerialsRunOut)
     ∷ []
 
 abbrev pub gen_key_refusal : Drive → ℕ → ℕ → Option Cause
 gen_key_refusal d caller r = refused_by d (gen_key_checks d caller r)
 
 abbrev pub key_generated : Drive → ℕ → Drive
-key_generated d r = fresh_keys d (holders_of d r (kind_of d r))
+key_generated d r = fresh_keys d (stands_for d r)
 
 abbrev pub gen_key_after : Drive → ℕ → ℕ → Drive
 gen_key_after d caller r = unless (gen_key_refusal d caller r) d (key_generated d r)
@@ -228,7 +206,7 @@ erase_checks d caller r =
     ∷ (is_free (kind_of d r), RowFree)
     ∷ (not (single_user d r), WrongKind)
     ∷ (is_not caller (owner r (row_of d r)) && is_not caller admins, CallerNotAllowed)
-    ∷ (run_out (length (holders_of d r (kind_of d r))) d, SerialsRunOut)
+    ∷ (run_out (length (stands_for d r)) d, SerialsRunOut)
     ∷ []
 
 abbrev pub erase_refusal : Drive → ℕ → ℕ → Option Cause

@@ -15,7 +15,7 @@ use Rattle.rules.specs.declared.unit.Control.{Control}
 use Rattle.rules.specs.declared.unit.LogicalUnit.{LogicalUnit}
 use Rattle.rules.specs.Causes.{Done}
 use Rattle.rules.specs.Drive.{Drive, row_of, unused_keys, refused_by}
-use Rattle.rules.specs.Rows.{row, locked_for, is_a_unit_row, controlling_row, key_or}
+use Rattle.rules.specs.Rows.{row, locked_for, is_a_unit_row, controlling_row, unit_or, key_or}
 use Rattle.rules.specs.Units.{exists, unit}
 
 -- ---- Access: may these blocks be read, or written?
@@ -72,13 +72,6 @@ unused_answer d = answer (refused_by d []) (unused_keys d)
 abbrev pub read_row_checks : ℕ → List (Bool × Cause)
 read_row_checks r = (nat_lt 16 r, NoSuchRow) ∷ []
 
--- the unit, or the mark where there is none
-abbrev pub unit_or : Kind → ℕ → ℕ
-unit_or Free mark = mark
-unit_or Global mark = mark
-unit_or (UnitRow u) mark = u
-unit_or (RangeRow u start length serial) mark = u
-
 abbrev pub start_of : Kind → ℕ
 start_of Free = 0
 start_of Global = 0
@@ -91,6 +84,7 @@ length_of Global = 0
 length_of (UnitRow u) = 0
 length_of (RangeRow u start length serial) = length
 
+-- the unit, or the mark where there is none; start, length and serial are 0 in a row that has none
 abbrev pub fields_of : Bounds → Row → RowFields
 fields_of bounds r = record {
   unit = unit_or r.kind bounds.mark;

@@ -9,7 +9,7 @@ use Rattle.rules.specs.declared.row.Kind.TheVariants.{Free, Global, UnitRow, Ran
 use Rattle.rules.specs.declared.row.Sought.TheVariants.{UnitRowOf}
 use Rattle.rules.specs.declared.unit.Holder.{Holder}
 use Rattle.rules.specs.Drive.{Drive, kind_of}
-use Rattle.rules.specs.FreshKeys.{key_of, fresh_key, holders_of, unit_and_ranges}
+use Rattle.rules.specs.FreshKeys.{key_of, fresh_key, stands_for, unit_and_ranges}
 use Rattle.rules.specs.Rows.{is_there}
 use Rattle.rules.specs.Units.{unit}
 use Rattle.rules.specs.Walk.{answers_by}
@@ -53,8 +53,8 @@ requests d (Assign caller n start length standing) = cond (is_there (UnitRowOf n
 requests d (Deassign caller r keep) = requests_of_deassign d keep (kind_of d r)
 requests d (SetRange caller r start length) = []
 requests d (SetLocks caller r flags) = []
-requests d (GenKey caller r) = swaps d (holders_of d r (kind_of d r))
-requests d (Erase caller r) = swaps d (holders_of d r (kind_of d r))
+requests d (GenKey caller r) = swaps d (stands_for d r)
+requests d (Erase caller r) = swaps d (stands_for d r)
 requests d (Reactivate caller selection policy) = []
 requests d (Create n blocks) = Put d.next ∷ []
 requests d (Delete n) = Drop (unit n d.units).serial ∷ []

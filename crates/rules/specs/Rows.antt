@@ -72,6 +72,20 @@ is_range_row Global = false
 is_range_row (UnitRow u) = false
 is_range_row (RangeRow u start length serial) = true
 
+-- the unit that a row is for, else this number
+abbrev pub unit_or : Kind → ℕ → ℕ
+unit_or Free other = other
+unit_or Global other = other
+unit_or (UnitRow u) other = u
+unit_or (RangeRow u start length serial) other = u
+
+-- the key of a range row, else this one
+abbrev pub key_or : Kind → ℕ → ℕ
+key_or Free other = other
+key_or Global other = other
+key_or (UnitRow u) other = other
+key_or (RangeRow u start length serial) other = serial
+
 -- a range row under another key
 abbrev pub with_serial : ℕ → Kind → Kind
 with_serial serial Free = Free
@@ -179,10 +193,3 @@ row_under rows n = unwrap_or (lowest_row (UnitRowOf n) rows) 0
 -- the row that controls a block: the range row of its unit that covers it, else the row that the unit is under
 abbrev pub controlling_row : List Row → ℕ → ℕ → ℕ
 controlling_row rows n block = unwrap_or (lowest_row (RangeOver n block) rows) (row_under rows n)
-
--- the key of a range row, else this one
-abbrev pub key_or : Kind → ℕ → ℕ
-key_or Free serial = serial
-key_or Global serial = serial
-key_or (UnitRow u) serial = serial
-key_or (RangeRow u start length own) serial = own

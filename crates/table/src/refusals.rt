@@ -1,8 +1,7 @@
-ghost use Rattle.std.specs.Prelude.{◌≡◌, ℕ, [], ◌∷◌};
-ghost use Rattle.vault.specs.Checks.{first_of, answer};
-ghost use Rattle.rules.specs.declared.cause.Cause.TheVariants.{Closed};
+ghost use Rattle.std.specs.Prelude.{◌≡◌, ℕ, []};
+ghost use Rattle.vault.specs.Checks.{answer};
 ghost use Rattle.rules.specs.Commands.{create_answer, delete_answer};
-ghost use Rattle.rules.specs.Drive.{unused_keys};
+ghost use Rattle.rules.specs.Drive.{unused_keys, refused_by};
 
 use crate::calls::Calls;
 use crate::state::Table;
@@ -22,7 +21,7 @@ impl<'v, V: Vault, N: Numbering> Table<'v, V, N> {
 
     /// The first check of every call.
     pub(crate) fn check_open(&self) -> Result<(), Cause>
-        ensures { result ≡ answer (first_of ((self.now.closed, Closed) ∷ [])) tt }
+        ensures { result ≡ answer (refused_by (⟦<Table<'v, V, N> as Calls>⟧.model self.now) []) tt }
     {
         if self.closed {
             return Err(Cause::Closed);
