@@ -1,3 +1,1 @@
-pub mod Spelling
-pub mod Line
 pub mod Says

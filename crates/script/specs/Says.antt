@@ -1,17 +1,14 @@
 -- Which call the words of a line say.
 use Rattle.std.specs.Prelude.{◌≡◌, ℕ, ◌^◌, List, [], ◌∷◌, IfSome, Ok, vec_items, string_bytes, codes, Option}
 use Rattle.std.specs.List.{AllByRecursion}
-use Rattle.script.specs.Line.{words_of}
+use Rattle.words.specs.Line.{words_of}
+use Rattle.words.specs.Spelling.{numbering_word, vault_word}
 use Rattle.numerals.specs.Number.{read, fitted}
 use Rattle.script.specs.declared.calls.Call.{Call}
 use Rattle.script.specs.declared.calls.Call.TheVariants.{Create, Delete, Controls, Unused}
 use Rattle.script.specs.declared.calls.Layout.{Layout}
 use Rattle.script.specs.declared.calls.Line.{Line}
 use Rattle.script.specs.declared.calls.Script.{Script}
-use Rattle.script.specs.declared.calls.NumberingKind.{NumberingKind}
-use Rattle.script.specs.declared.calls.NumberingKind.TheVariants.{Nvme, Scsi}
-use Rattle.script.specs.declared.calls.VaultKind.{VaultKind}
-use Rattle.script.specs.declared.calls.VaultKind.TheVariants.{Chip, File}
 
 -- the word writes a number of 32 or of 64 bits
 abbrev pub Writes32 : List ℕ → ℕ → Type 0
@@ -43,14 +40,6 @@ Called keyword k ws left = (keyword_of k ≡ keyword) × Arguments k ws left
 abbrev pub Says : Call → List (List ℕ) → Type 0
 Says k [] = ⊥
 Says k (w ∷ ws) = (w ≡ keyword_of k) × Arguments k ws []
-
-abbrev pub numbering_word : NumberingKind → List ℕ
-numbering_word Nvme = codes "nvme"
-numbering_word Scsi = codes "scsi"
-
-abbrev pub vault_word : VaultKind → List ℕ
-vault_word Chip = codes "chip"
-vault_word File = codes "file"
 
 -- the words after `fresh` say the layout, and the words left follow
 abbrev pub Fresh : Layout → List (List ℕ) → List (List ℕ) → Type 0

@@ -2,11 +2,11 @@
 #![tactic(auto)]
 
 pub mod calls;
-pub mod fault;
-mod keywords;
+pub mod error;
 mod parser;
-mod words;
 
-pub use calls::{Call, Layout, Line, NumberingKind, Script, VaultKind};
-pub use fault::{Fault, ScriptError};
+pub use calls::{Call, Layout, Line, Script};
+pub use error::ScriptError;
 pub use parser::parse;
+pub use words::fault::Fault;
+pub use words::kinds::{NumberingKind, VaultKind};

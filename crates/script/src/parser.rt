@@ -2,11 +2,13 @@
 ghost use Rattle.std.specs.Prelude.{◌∷◌, IfOk, codes, OnOk};
 ghost use Rattle.script.specs.Says.{Called, Faithful, Fresh, LaysOut, Says, SoFar};
 
-use crate::calls::{Call, Layout, Line, NumberingKind, Script, VaultKind};
-use crate::fault::{Fault, ScriptError};
-use crate::keywords::Keyword;
-use crate::words::Words;
+use crate::calls::{Call, Layout, Line, Script};
+use crate::error::ScriptError;
 use std::alloc::Global;
+use words::fault::Fault;
+use words::keywords::Keyword;
+use words::kinds::{NumberingKind, VaultKind};
+use words::line::Words;
 
 /// Reads a whole script. The first line that cannot be read decides the error.
 pub fn parse<'a>(heap: Global, text: &'a str) -> Result<Script, ScriptError<'a>>

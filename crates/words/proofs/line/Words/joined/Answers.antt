@@ -3,8 +3,8 @@ use Rattle.std.proofs.Common.{◌≡◌, ℕ, List, [], ◌∷◌, ◌++◌, map
 use Rattle.std.specs.Borrow.{Bor}
 use Rattle.std.specs.List.{flat_map, join_by}
 use Rattle.std.proofs.lemmas.Iterator.Consumers.{YieldsList-from_first, map_from_collect}
-use Rattle.script.specs.Line.{spaced}
-use Rattle.script.proofs.words.Words.joined.Goals as goal
+use Rattle.words.specs.Line.{spaced}
+use Rattle.words.proofs.line.Words.joined.Goals as goal
 
 others : (x : Bor (List ℕ)) (xs : List (Bor (List ℕ))) → x.now ++ flat_map (λ y. (32 ∷ []) ++ y.now) xs ≡ spaced (map (λ y. y.now) (x ∷ xs))
 others x [] = append-nil x.now

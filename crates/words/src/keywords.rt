@@ -1,5 +1,5 @@
 //! The words that say which call a line is.
-ghost use Rattle.script.specs.Spelling.{Reads, method_spelling, spelling};
+ghost use Rattle.words.specs.Spelling.{Reads, method_spelling, spelling};
 
 use crate::fault::Fault;
 

@@ -1,7 +1,7 @@
 //! The words of a line, one after the other.
 ghost use Rattle.std.specs.Prelude.{◌≡◌, [], IfOk, string_bytes, MatchResult, ◌≢◌, List, ℕ};
 ghost use Rattle.std.specs.Iterator.{YieldsFirstRef, item_count};
-ghost use Rattle.script.specs.Line.{uncommented, words_of, spaced, Given, Counted};
+ghost use Rattle.words.specs.Line.{uncommented, words_of, spaced, Given, Counted};
 
 use crate::fault::Fault;
 use numerals::{Number, NumberFault};

@@ -1,4 +1,4 @@
-//! What can be wrong with a script.
+//! What can be wrong with a line.
 use std::alloc::AllocError;
 use thiserror::Error;
 
@@ -27,12 +27,4 @@ pub enum Fault<'a> {
     LayoutTwice,
     #[error("there is not enough memory")]
     NoMemory(#[from(alloc)] AllocError),
-}
-
-/// The first line of a script that cannot be read, counted from 1.
-#[derive(Clone, Copy, Debug, Error)]
-#[error("line {line}: {fault}")]
-pub struct ScriptError<'a> {
-    pub line: usize,
-    pub fault: Fault<'a>,
 }

@@ -1,11 +1,15 @@
--- How each keyword is spelled.
+-- How each word of a script is spelled.
 use Rattle.std.specs.Prelude.{◌≡◌, ℕ, List, codes, Option, Result, MatchOption, ◌≢◌}
 use Rattle.std.specs.Result.{result_ok}
 use Rattle.std.specs.Borrow.{Bor}
-use Rattle.script.specs.declared.keywords.Keyword.{Keyword}
-use Rattle.script.specs.declared.keywords.Keyword.TheVariants as keyword
-use Rattle.script.specs.declared.keywords.Method.{Method}
-use Rattle.script.specs.declared.keywords.Method.TheVariants as method
+use Rattle.words.specs.declared.keywords.Keyword.{Keyword}
+use Rattle.words.specs.declared.keywords.Keyword.TheVariants as keyword
+use Rattle.words.specs.declared.keywords.Method.{Method}
+use Rattle.words.specs.declared.keywords.Method.TheVariants as method
+use Rattle.words.specs.declared.kinds.NumberingKind.{NumberingKind}
+use Rattle.words.specs.declared.kinds.NumberingKind.TheVariants.{Nvme, Scsi}
+use Rattle.words.specs.declared.kinds.VaultKind.{VaultKind}
+use Rattle.words.specs.declared.kinds.VaultKind.TheVariants.{Chip, File}
 
 abbrev pub method_spelling : Method → List ℕ
 method_spelling method.Assign = codes "assign"
@@ -32,6 +36,14 @@ spelling keyword.Controls = codes "controls"
 spelling keyword.Unused = codes "unused"
 spelling keyword.Describe = codes "describe"
 spelling keyword.Save = codes "save"
+
+abbrev pub numbering_word : NumberingKind → List ℕ
+numbering_word Nvme = codes "nvme"
+numbering_word Scsi = codes "scsi"
+
+abbrev pub vault_word : VaultKind → List ℕ
+vault_word Chip = codes "chip"
+vault_word File = codes "file"
 
 -- the result is what the text spells, and none where nothing is spelled so
 abbrev pub Spelled : {K : Type 0} → (K → List ℕ) → List ℕ → Option K → Type 0

@@ -9,8 +9,8 @@ use Rattle.std.specs.Str.Pattern.{CutsPrefixes, FindsCharPrefix, IsFullyTrimmed}
 use Rattle.std.proofs.lemmas.List.Elements.{All-from_get_or}
 use Rattle.std.proofs.lemmas.List.Splits.{slice_split_at, slice_split_none}
 use Rattle.std.proofs.lemmas.Str.Pattern.{IsSplitOnceResult, drop_at_char, split_parts, strip_prefix_char}
-use Rattle.script.specs.Line.{words_of}
-use Rattle.script.proofs.words.WordsIterator.next.Goals as goal
+use Rattle.words.specs.Line.{words_of}
+use Rattle.words.proofs.line.WordsIterator.next.Goals as goal
 
 -- spaces that are cut off the front leave the words
 spaces_cut : (s ns r : List ℕ) → CutsPrefixes (FindsCharPrefix 32) s ns r → words_of r ≡ words_of s
