@@ -1,12 +1,12 @@
 -- What the definitions of the calls give, step by step.
 use Rattle.std.specs.Prelude.{◌≡◌, Bool, true, false, List, [], ◌∷◌}
+use Rattle.std.specs.List.{fold}
 use Rattle.rules.specs.declared.ask.Ask.{Ask}
 use Rattle.rules.specs.declared.ask.Ask.TheVariants as asks
 use Rattle.rules.specs.declared.call.Call.{Call}
 use Rattle.rules.specs.declared.call.Call.TheVariants.{Assign, Deassign, SetRange, SetLocks, GenKey, Erase, Reactivate, Create, Delete, Format, Reset}
 use Rattle.rules.specs.Asks.{reply_to, left_by}
 use Rattle.rules.specs.Drive.{Drive}
-use Rattle.rules.specs.Walk.{after_by}
 use Rattle.cases.specs.declared.sequence.Shown.{Shown}
 use Rattle.cases.specs.declared.sequence.Shown.TheVariants.{ByProof, ByRun}
 use Rattle.cases.specs.declared.sequence.Step.{Step}
@@ -44,7 +44,7 @@ Given d (step ∷ steps) = wanted step.shown (reply_to d step.ask ≡ step.reply
 
 -- what the steps leave
 abbrev pub left_by_all : Drive → List Step → Drive
-left_by_all d steps = after_by (λ e (step : Step). left_by e step.ask) d steps
+left_by_all d steps = fold (λ e (step : Step). left_by e step.ask) d steps
 
 -- the steps of a stage, and the drive that they leave
 pub record Stage (d : Drive) (steps : List Step) (last : Drive) : Type 0 where

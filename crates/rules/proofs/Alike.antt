@@ -9,7 +9,7 @@ use Rattle.rules.specs.declared.unit.Holder.{Holder}
 use Rattle.rules.specs.declared.unit.Holder.TheVariants.{TheUnit, TheRow}
 use Rattle.rules.specs.Drive.{Drive}
 use Rattle.rules.specs.FreshKeys.{fresh_key, fresh_keys}
-use Rattle.rules.specs.Rows.{no_row, row, is_free, with_serial, unit_row_of, range_over, suits, controlling_row}
+use Rattle.rules.specs.Rows.{free_row, row, is_free, with_serial, unit_row_of, range_over, suits, controlling_row}
 use Rattle.rules.specs.Units.{exists, unit}
 use Rattle.rules.proofs.Renewals.{rekeyed_row, keyed-exists, keyed-blocks, unit-row-same, range-over-same}
 use Rattle.rules.proofs.Searches.{first-same, set-alike, control-as}
@@ -80,5 +80,5 @@ module _ (d e : Drive) (a : Alike d e) where
 
   pub alike-control : (n block : ℕ) → controlling_row e.rows n block ≡ controlling_row d.rows n block
   alike-control n block = control-as d.rows n block e.rows
-      (first-same (λ y. suits (RangeOver n block) y) no_row e.rows d.rows a.long (λ i. sym (range-over-same n block (row i e.rows).kind 0) ∙ ap (range_over n block) (a.kinds i) ∙ range-over-same n block (row i d.rows).kind 0))
-      (first-same (λ y. suits (UnitRowOf n) y) no_row e.rows d.rows a.long (λ i. sym (unit-row-same n (row i e.rows).kind 0) ∙ ap (unit_row_of n) (a.kinds i) ∙ unit-row-same n (row i d.rows).kind 0))
+      (first-same (λ y. suits (RangeOver n block) y) free_row e.rows d.rows a.long (λ i. sym (range-over-same n block (row i e.rows).kind 0) ∙ ap (range_over n block) (a.kinds i) ∙ range-over-same n block (row i d.rows).kind 0))
+      (first-same (λ y. suits (UnitRowOf n) y) free_row e.rows d.rows a.long (λ i. sym (unit-row-same n (row i e.rows).kind 0) ∙ ap (unit_row_of n) (a.kinds i) ∙ unit-row-same n (row i d.rows).kind 0))

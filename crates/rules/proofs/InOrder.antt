@@ -16,7 +16,7 @@ use Rattle.rules.specs.declared.unit.LogicalUnit.{LogicalUnit}
 use Rattle.rules.specs.Drive.{Drive, kind_of}
 use Rattle.rules.specs.FreshKeys.{key_of, HasKey, fresh_key, fresh_keys, units_under_global, holders_of, unit_and_ranges}
 use Rattle.rules.specs.Meanings.{KeyedInOrder, FreshKeysInOrder}
-use Rattle.rules.specs.Rows.{no_row, row, is_range_row, key_or, with_serial, suits, is_there, all_rows}
+use Rattle.rules.specs.Rows.{free_row, row, is_range_row, key_or, with_serial, suits, is_there, all_rows}
 use Rattle.rules.specs.Sound.{Sound}
 use Rattle.rules.proofs.Renewals.{range-parts, keyed-serial, rekeyed_row, valid-kept, valid-of-row, valid-of-unit}
 use Rattle.rules.proofs.Numbered.{all-more}
@@ -26,7 +26,7 @@ use Rattle.rules.proofs.Searches.{written, unwritten}
 row_within : (rows : List Row) (r : ℕ) → is_range_row (row r rows).kind ≡ true → r < length rows
 row_within rows r is = elim (cases_lt r (length rows)) [
   | inl l ↦ l
-  | inr g ↦ absurd (both_ways (is_range_row (row r rows).kind) (ap (λ (x : Row). is_range_row x.kind) (get_or_past rows r no_row g)) is)
+  | inr g ↦ absurd (both_ways (is_range_row (row r rows).kind) (ap (λ (x : Row). is_range_row x.kind) (get_or_past rows r free_row g)) is)
 ]
 
 own_key : (d : Drive) (holder : Holder) → HasKey d holder → key_of (fresh_key d holder) holder ≡ d.next

@@ -29,7 +29,7 @@ use Rattle.rules.specs.FreshKeys.{fresh_key, fresh_keys, holders_of, unit_and_ra
 use Rattle.rules.specs.Laws.{has_block, block_key, FreshlyKeyed, SetByOwner}
 use Rattle.rules.specs.Methods.{assign_refusal, row_to_take, unit_row_assigned, range_row_assigned, assigned, deassign_checks, freed, given_up, set_range_checks, range_set, set_locks_checks, set_locks_refusal, locks_set, key_generated, erased, reactivate_checks, reactivated}
 use Rattle.rules.specs.Questions.{block_locked}
-use Rattle.rules.specs.Rows.{blank, locked_for, locked, lock_enabled, relocked, no_row, row, is_free, is_a_unit_row, unit_or, key_or, with_serial, with_range, with_flags, with_kind, anew, unit_row_of, range_row_of, range_over, suits, lowest_row, is_there, row_under, controlling_row}
+use Rattle.rules.specs.Rows.{blank, locked_for, locked, lock_enabled, relocked, free_row, row, is_free, is_a_unit_row, unit_or, key_or, with_serial, with_range, with_flags, with_kind, anew, unit_row_of, range_row_of, range_over, suits, lowest_row, is_there, row_under, controlling_row}
 use Rattle.rules.specs.Sessions.{in_session, owner}
 use Rattle.rules.specs.Sound.{is_global, Sound}
 use Rattle.rules.specs.Units.{no_unit, exists, unit, with_unit, without_unit}
@@ -53,7 +53,7 @@ not-enabled : (access : Access) (f : Flags) → lock_enabled f ≡ false → loc
 not-enabled Read f e = grind (arith, nat_tests)
 not-enabled Write f e = grind (arith, nat_tests)
 
-none-locked : (access : Access) → locked_for access no_row.flags ≡ false
+none-locked : (access : Access) → locked_for access free_row.flags ≡ false
 none-locked Read = refl
 none-locked Write = refl
 
@@ -116,6 +116,7 @@ module _ (access : Access) (n block : ℕ) where
         let p = passed-in d (set_locks_checks d caller r) caller e in
         let o : caller ≡ owner r (row_of d r) = eqb-true caller (owner r (row_of d r)) (not-false _ p.1.1.0) in
         record {
+          there = there-after (locks_set d r flags) f;
           caller = caller;
           flags = flags;
           call_is = ap (λ k. SetLocks caller k flags) (sym same);
@@ -129,8 +130,8 @@ module _ (access : Access) (n block : ℕ) where
       let make : Row → Row = λ r. with_flags (relocked r.flags) r in
       let ss = map make d.rows in
       let c : controlling_row ss n block ≡ controlling_row d.rows n block = control-as d.rows n block ss
-      (first-same (λ y. suits (RangeOver n block) y) no_row ss d.rows (length-map d.rows make) (map-alike (suits (RangeOver n block)) make (λ r. refl) d.rows))
-      (first-same (λ y. suits (UnitRowOf n) y) no_row ss d.rows (length-map d.rows make) (map-alike (suits (UnitRowOf n)) make (λ r. refl) d.rows)) in
+      (first-same (λ y. suits (RangeOver n block) y) free_row ss d.rows (length-map d.rows make) (map-alike (suits (RangeOver n block)) make (λ r. refl) d.rows))
+      (first-same (λ y. suits (UnitRowOf n) y) free_row ss d.rows (length-map d.rows make) (map-alike (suits (UnitRowOf n)) make (λ r. refl) d.rows)) in
       let b = there-after (was_reset d) f in
       let q = or_parts (not (has_block (was_reset d) n block)) (block_locked ss access n block) f in
       let was : block_locked d.rows access n block ≡ true = (elim (cases_Bool (block_locked d.rows access n block)) [ inl e ↦ e | inr e ↦ absurd (both_ways (shut_to d) (ap (λ x. not x || block_locked d.rows access n block) b ∙ e) t) ]) in
@@ -138,8 +139,8 @@ module _ (access : Access) (n block : ℕ) where
     where
       kept : (i : ℕ) → locked_for access (row i d.rows).flags ≡ true → locked_for access (row i (map (λ r. with_flags (relocked r.flags) r) d.rows)).flags ≡ true
       kept i e = elim (cases_lt i (length d.rows)) [
-        | inl l ↦ ap (λ (y : Row). locked_for access y.flags) (get_or-map (λ r. with_flags (relocked r.flags) r) d.rows i no_row no_row l) ∙ relock-keeps access (row i d.rows).flags e
-        | inr g ↦ absurd (both_ways (locked_for access (row i d.rows).flags) (ap (λ (y : Row). locked_for access y.flags) (get_or_past d.rows i no_row g) ∙ none-locked access) e)
+        | inl l ↦ ap (λ (y : Row). locked_for access y.flags) (get_or-map (λ r. with_flags (relocked r.flags) r) d.rows i free_row free_row l) ∙ relock-keeps access (row i d.rows).flags e
+        | inr g ↦ absurd (both_ways (locked_for access (row i d.rows).flags) (ap (λ (y : Row). locked_for access y.flags) (get_or_past d.rows i free_row g) ∙ none-locked access) e)
       ]
 
   -- no lock is enabled, so no block was locked
@@ -151,7 +152,7 @@ module _ (access : Access) (n block : ℕ) where
       open_row : (i : ℕ) → locked_for access (row i d.rows).flags ≡ false
       open_row i = elim (cases_lt i (length d.rows)) [
         | inl l ↦ not-enabled access (row i d.rows).flags (any_none (λ r. lock_enabled r.flags) d.rows free i l)
-        | inr g ↦ ap (λ (y : Row). locked_for access y.flags) (get_or_past d.rows i no_row g) ∙ none-locked access
+        | inr g ↦ ap (λ (y : Row). locked_for access y.flags) (get_or_past d.rows i free_row g) ∙ none-locked access
       ]
 
   -- ---- units

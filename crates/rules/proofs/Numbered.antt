@@ -6,7 +6,7 @@ use Rattle.std.proofs.lemmas.List.FromFn.{length-enumerate_from, get_or-enumerat
 use Rattle.std.specs.List.{enumerate_from}
 use Rattle.rules.specs.declared.row.Row.{Row}
 use Rattle.rules.specs.declared.row.Sought.{Sought}
-use Rattle.rules.specs.Rows.{no_row, row, suits, numbered, all_rows}
+use Rattle.rules.specs.Rows.{free_row, row, suits, numbered, all_rows}
 
 -- each row made into another by its number
 abbrev pub each_row_by : (ℕ → Row → Row) → List Row → List Row
@@ -18,15 +18,15 @@ module _ (make : ℕ → Row → Row) (rows : List Row) where
 
   pub row-each : (i : ℕ) → i < length rows → row i (each_row_by make rows) ≡ make i (row i rows)
   row-each i l =
-      get_or-map (λ entry. make entry.0 entry.1) (numbered rows) i (0, no_row) no_row (omega (arith, length-enumerate_from 0 rows))
-      ∙ ap (λ (entry : ℕ × Row). make entry.0 entry.1) (get_or-enumerate_from 0 rows i (0, no_row) l)
+      get_or-map (λ entry. make entry.0 entry.1) (numbered rows) i (0, free_row) free_row (omega (arith, length-enumerate_from 0 rows))
+      ∙ ap (λ (entry : ℕ × Row). make entry.0 entry.1) (get_or-enumerate_from 0 rows i (0, free_row) l)
       ∙ ap (λ n. make n (row i rows)) (let e : 0 + i ≡ i = omega arith in e)
 
   -- what each row keeps
   pub each-alike : {X : Type 0} (f : Row → X) → ((n : ℕ) (r : Row) → f (make n r) ≡ f r) → (i : ℕ) → f (row i (each_row_by make rows)) ≡ f (row i rows)
   each-alike f same i = elim (cases_lt i (length rows)) [
     | inl l ↦ ap f (row-each i l) ∙ same i (row i rows)
-    | inr g ↦ ap f (get_or_past (each_row_by make rows) i no_row (omega (arith, length-each)) ∙ sym (get_or_past rows i no_row g))
+    | inr g ↦ ap f (get_or_past (each_row_by make rows) i free_row (omega (arith, length-each)) ∙ sym (get_or_past rows i free_row g))
   ]
 
 -- ---- the rest of the rows have numbers one higher

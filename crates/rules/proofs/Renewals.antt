@@ -188,12 +188,12 @@ fresh-next d (TheRow r) = refl
 pub renewed-sound : (d : Drive) (holders : List Holder) → Sound d → AllByRecursion (HasKey d) holders → d.next + length holders ≤ 4294967295
     → Sound (fresh_keys d holders) × NoneRefused d.vault (swaps d holders) (fresh_keys d holders).vault
 unfolding fresh_keys swaps
-renewed-sound d [] h v le = (h, refl)
+renewed-sound d [] h v le = (h, (tt, refl))
 renewed-sound d (holder ∷ holders) h v le =
     let s = fresh-sound d h (omega arith) holder v.0 in
     let e = fresh-next d holder in
     let ih = renewed-sound (fresh_key d holder) holders s.0 (All-weaker (HasKey d) (HasKey (fresh_key d holder)) (λ x. valid-kept d holder x) holders v.1) (omega arith) in
-    (ih.0, (s.1, ih.1))
+    (ih.0, ((s.1, ih.1.0), ih.1.1))
 
 -- ---- what gets fresh keys is there
 all-exist : (us : List LogicalUnit) → AllByRecursion (λ u. exists u.number us ≡ true) us

@@ -10,7 +10,7 @@ use Rattle.rules.specs.declared.row.Row.{Row}
 use Rattle.rules.specs.declared.row.Sought.{Sought}
 use Rattle.rules.specs.declared.row.Sought.TheVariants.{UnitRowOf, RangeOver}
 use Rattle.rules.specs.declared.unit.LogicalUnit.{LogicalUnit}
-use Rattle.rules.specs.Rows.{blank, no_row, row, is_free, covers, unit_row_of, range_over, range_sharing, suits, lowest_row, is_there}
+use Rattle.rules.specs.Rows.{blank, free_row, row, is_free, covers, unit_row_of, range_over, range_sharing, suits, lowest_row, is_there}
 use Rattle.rules.specs.Sound.{is_global, row_fits, AtMostOne, SoundRows}
 use Rattle.rules.specs.Units.{exists, unit}
 use Rattle.rules.proofs.Searches.{first-same, missed, not_there, there, there-kept, one_kept, each_row, unwritten}
@@ -94,7 +94,7 @@ module _ (units : List LogicalUnit) (rows : List Row) (h : SoundRows units rows)
   pub in_table : (r : ℕ) → is_free (row r rows).kind ≡ false → r < 17
   in_table r f = elim (cases_lt r 17) [
     | inl l ↦ l
-    | inr g ↦ absurd (both_ways _ f (ap (λ (x : Row). is_free x.kind) (get_or_past rows r no_row (omega (arith, h.seventeen)))))
+    | inr g ↦ absurd (both_ways _ f (ap (λ (x : Row). is_free x.kind) (get_or_past rows r free_row (omega (arith, h.seventeen)))))
   ]
 
   pub not-row-0 : (r : ℕ) → is_global (row r rows).kind ≡ false → 0 < r
@@ -102,10 +102,10 @@ module _ (units : List LogicalUnit) (rows : List Row) (h : SoundRows units rows)
   not-row-0 (suc r) f = omega arith
 
   -- what is found nowhere stands nowhere
-  pub none-at : (w : Sought) → suits w no_row ≡ false → is_there w rows ≡ false → (i : ℕ) → suits w (row i rows) ≡ false
+  pub none-at : (w : Sought) → suits w free_row ≡ false → is_there w rows ≡ false → (i : ℕ) → suits w (row i rows) ≡ false
   none-at w z f i = elim (cases_lt i 17) [
     | inl l ↦ missed w rows (not_there w rows f) i (within i l)
-    | inr g ↦ ap (suits w) (get_or_past rows i no_row (omega (arith, h.seventeen))) ∙ z
+    | inr g ↦ ap (suits w) (get_or_past rows i free_row (omega (arith, h.seventeen))) ∙ z
   ]
 
   pub unit-row-there : (r n : ℕ) → (row r rows).kind ≡ UnitRow n → is_there (UnitRowOf n) rows ≡ true
@@ -126,7 +126,7 @@ module _ (units : List LogicalUnit) (rows : List Row) (h : SoundRows units rows)
     seventeen = length-set rows r x ∙ h.seventeen;
     global = ap (λ (y : Row). y.kind) (unwritten rows r x 0 (λ e. omega arith)) ∙ h.global;
     others = each_row rows r x (λ i y. 0 < i → is_global y.kind ≡ false) (within r l) (λ _. g) (λ i n. h.others i);
-    blanks = each_row rows r x (λ i y. i < 17 → is_free y.kind ≡ true → y.flags ≡ blank) (within r l) (λ _ e. b e) (λ i n. h.blanks i);
+    blanks = each_row rows r x (λ i y. is_free y.kind ≡ true → y.flags ≡ blank) (within r l) b (λ i n. h.blanks i);
     each = each_row rows r x (λ i y. row_fits units (set rows r x) y.kind ≡ true) (within r l) f (λ i n. fits-rows units rows (set rows r x) (row i rows).kind (λ m s t q e. k i m s t q n e) (h.each i));
     unit_rows = λ n. one_kept rows r x (UnitRowOf n) (within r l) (h.unit_rows n) (a n);
     ranges = λ n block. one_kept rows r x (RangeOver n block) (within r l) (h.ranges n block) (c n block);
@@ -171,8 +171,8 @@ module _ (units : List LogicalUnit) (rows : List Row) (h : SoundRows units rows)
   pub same-lowest : (ss : List Row) → length ss ≡ length rows → ((i : ℕ) → (row i ss).kind ≡ (row i rows).kind) → (n block : ℕ)
       → (lowest_row (UnitRowOf n) ss ≡ lowest_row (UnitRowOf n) rows) × (lowest_row (RangeOver n block) ss ≡ lowest_row (RangeOver n block) rows)
   same-lowest ss n e m block = (
-    first-same (λ y. suits (UnitRowOf m) y) no_row ss rows n (λ i. ap (unit_row_of m) (e i)),
-    first-same (λ y. suits (RangeOver m block) y) no_row ss rows n (λ i. ap (range_over m block) (e i)),
+    first-same (λ y. suits (UnitRowOf m) y) free_row ss rows n (λ i. ap (unit_row_of m) (e i)),
+    first-same (λ y. suits (RangeOver m block) y) free_row ss rows n (λ i. ap (range_over m block) (e i)),
   )
 
   pub rows_alike : (ss : List Row) → length ss ≡ length rows → ((i : ℕ) → (row i ss).kind ≡ (row i rows).kind) → ((r : ℕ) → r < 17 → is_free (row r rows).kind ≡ true → (row r ss).flags ≡ blank) → SoundRows units ss
@@ -180,7 +180,10 @@ module _ (units : List LogicalUnit) (rows : List Row) (h : SoundRows units rows)
     seventeen = n ∙ h.seventeen;
     global = e 0 ∙ h.global;
     others = λ r p. ap is_global (e r) ∙ h.others r p;
-    blanks = λ r l f. b r l (ap is_free (sym (e r)) ∙ f);
+    blanks = λ r f. elim (cases_lt r 17) [
+      | inl l ↦ b r l (ap is_free (sym (e r)) ∙ f)
+      | inr g ↦ ap (λ (x : Row). x.flags) (get_or_past ss r free_row (omega (arith, n, h.seventeen)))
+    ];
     each = λ r. ap (row_fits units ss) (e r) ∙ fits-rows units rows ss (row r rows).kind (λ m s t q _ y. ap is_some (same-lowest ss n e m 0).0 ∙ y) (h.each r);
     unit_rows = λ m i j p q. h.unit_rows m i j (ap (unit_row_of m) (sym (e i)) ∙ p) (ap (unit_row_of m) (sym (e j)) ∙ q);
     ranges = λ m block i j p q. h.ranges m block i j (ap (range_over m block) (sym (e i)) ∙ p) (ap (range_over m block) (sym (e j)) ∙ q);

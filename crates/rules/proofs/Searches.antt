@@ -8,7 +8,7 @@ use Rattle.packed.proofs.Search.{found_within, found-passes, when-absent}
 use Rattle.rules.specs.declared.row.Row.{Row}
 use Rattle.rules.specs.declared.row.Sought.{Sought}
 use Rattle.rules.specs.declared.row.Sought.TheVariants.{UnitRowOf, RangeOver}
-use Rattle.rules.specs.Rows.{no_row, row, suits, lowest_row, is_there, row_under, controlling_row}
+use Rattle.rules.specs.Rows.{free_row, row, suits, lowest_row, is_there, row_under, controlling_row}
 use Rattle.rules.specs.Sound.{AtMostOne}
 
 -- what is found or not, with the equation
@@ -29,7 +29,7 @@ first-same test d (x ∷ xs) (y ∷ ys) n e =
 
 module _ (w : Sought) (rows : List Row) where
   pub hit : (i : ℕ) → lowest_row w rows ≡ Some i → suits w (row i rows) ≡ true
-  hit i e = found-passes (λ r. suits w r) rows i e no_row
+  hit i e = found-passes (λ r. suits w r) rows i e free_row
 
   pub hit-within : (i : ℕ) → lowest_row w rows ≡ Some i → i < length rows
   hit-within i e = found_within (λ r. suits w r) rows i e
@@ -72,10 +72,10 @@ module _ (w : Sought) (rows : List Row) where
 -- ---- one row is written
 module _ (rows : List Row) (r : ℕ) (x : Row) where
   pub written : r < length rows → row r (set rows r x) ≡ x
-  written l = get_or-set_same rows r x no_row l
+  written l = get_or-set_same rows r x free_row l
 
   pub unwritten : (i : ℕ) → i ≢ r → row i (set rows r x) ≡ row i rows
-  unwritten i n = get_or-set_other rows r i x no_row n
+  unwritten i n = get_or-set_other rows r i x free_row n
 
   -- what holds of the new row, and of each other row, holds of each row
   pub each_row : (P : ℕ → Row → Type 0) → r < length rows → P r x → ((i : ℕ) → i ≢ r → P i (row i rows)) → (i : ℕ) → P i (row i (set rows r x))
@@ -92,7 +92,7 @@ module _ (rows : List Row) (r : ℕ) (x : Row) where
   ]
 
   pub lowest-as : (w : Sought) → suits w x ≡ suits w (row r rows) → lowest_row w (set rows r x) ≡ lowest_row w rows
-  lowest-as w e = first-same (λ y. suits w y) no_row (set rows r x) rows (length-set rows r x) (set-alike (suits w) e)
+  lowest-as w e = first-same (λ y. suits w y) free_row (set rows r x) rows (length-set rows r x) (set-alike (suits w) e)
 
   pub there-kept : (w : Sought) → suits w (row r rows) ≡ false → is_there w rows ≡ true → is_there w (set rows r x) ≡ true
   there-kept w o t =

@@ -22,7 +22,7 @@ use Rattle.rules.specs.Drive.{Drive, with_rows, with_policy, row_of, kind_of, un
 use Rattle.rules.specs.FreshKeys.{holders_of, unit_and_ranges}
 use Rattle.rules.specs.Methods.{row_to_take, taken, unit_row_assigned, range_row_assigned, freed, given_up, range_set, locks_set, key_generated, reactivated_row, reactivated}
 use Rattle.rules.specs.Requests.{Put, Drop, NoneRefused, swaps, requests_of_deassign}
-use Rattle.rules.specs.Rows.{blank, relocked, no_row, row, is_free, is_a_unit_row, unit_or, key_or, with_range, is_single_user, with_flags, with_kind, anew, covers, unit_row_of, range_row_of, range_over, is_there}
+use Rattle.rules.specs.Rows.{blank, relocked, free_row, row, is_free, is_a_unit_row, unit_or, key_or, with_range, is_single_user, with_flags, with_kind, anew, covers, unit_row_of, range_row_of, range_over, is_there}
 use Rattle.rules.specs.Sound.{unit_fits, is_global, row_fits, SoundRows, serial_of, row_key, serials, policy_fits, Sound}
 use Rattle.rules.specs.Units.{valid, no_unit, exists, unit, with_unit, without_unit}
 use Rattle.rules.proofs.Accepted.{passed}
@@ -74,7 +74,7 @@ module _ (d : Drive) (h : Sound d) where
       let x : Row = with_flags flags (row_of d r) in
       let l = within d.units d.rows h.rows r (in_table d.units d.rows h.rows r f) in
       alike-sound (set d.rows r x) d.policy (length-set d.rows r x) (set-alike d.rows r x (λ (y : Row). y.kind) refl)
-      (each_row d.rows r x (λ i y. i < 17 → is_free (row i d.rows).kind ≡ true → y.flags ≡ blank) l (λ _ t. absurd (both_ways (is_free (kind_of d r)) f t)) (λ i _. h.rows.blanks i))
+      (each_row d.rows r x (λ i y. i < 17 → is_free (row i d.rows).kind ≡ true → y.flags ≡ blank) l (λ _ t. absurd (both_ways (is_free (kind_of d r)) f t)) (λ i _ _. h.rows.blanks i))
       (policy-set r x refl)
 
   -- ---- units
@@ -104,7 +104,7 @@ module _ (d : Drive) (h : Sound d) where
           rows = rows-units d.units d.rows h.rows (with_unit u d.units) (λ k ex _. kept k ex new);
           keys = put-keys d.next d.vault words h.keys h.next.0 (serials (with_unit u d.units) d.rows) more spare;
         },
-        (put-done d.next d.vault words h.keys h.next.0 (serials (with_unit u d.units) d.rows) more spare, refl),
+        ((put-done d.next d.vault words h.keys h.next.0 (serials (with_unit u d.units) d.rows) more spare, tt), refl),
       )
     where
       kept : (k : ℕ) → exists k d.units ≡ true → exists n d.units ≡ false → (exists k (with_unit (new_unit d n blocks) d.units) ≡ true) × ((unit k (with_unit (new_unit d n blocks) d.units)).blocks ≡ (unit k d.units).blocks)
@@ -137,7 +137,7 @@ module _ (d : Drive) (h : Sound d) where
               (has-remove-other (λ (v : LogicalUnit). v.number) k n d.units ne ∙ x, ap (λ (o : Option LogicalUnit). (unwrap_or o no_unit).blocks) (lookup-remove (λ (v : LogicalUnit). v.number) k n d.units ne)));
           keys = drop-keys d.next d.vault words h.keys (serials (without_unit n d.units) d.rows) s fewer;
         },
-        (drop-done d.next d.vault words h.keys (serials (without_unit n d.units) d.rows) s fewer, refl),
+        ((drop-done d.next d.vault words h.keys (serials (without_unit n d.units) d.rows) s fewer, tt), refl),
       )
 
   -- ---- one row is written
@@ -182,7 +182,7 @@ module _ (d : Drive) (h : Sound d) where
   apart_from : (n start len : ℕ) (rows : List Row) → length rows ≡ 17 → is_there (RangeSharing n start len) rows ≡ false → (block i : ℕ) → covers start len block ≡ true → range_over n block (row i rows).kind ≡ false
   apart_from n start len rows long f block i c = elim (cases_lt i 17) [
     | inl l ↦ over-apart n start len block (row i rows).kind c (missed (RangeSharing n start len) rows (not_there (RangeSharing n start len) rows f) i (omega arith))
-    | inr g ↦ ap (λ (x : Row). range_over n block x.kind) (get_or_past rows i no_row (omega arith))
+    | inr g ↦ ap (λ (x : Row). range_over n block x.kind) (get_or_past rows i free_row (omega arith))
   ]
 
   pub range-row-sound : (n start len : ℕ) (standing : Standing) → exists n d.units ≡ true → is_there (UnitRowOf n) d.rows ≡ true → ltb (unit n d.units).blocks (start + len) ≡ false
@@ -208,7 +208,7 @@ module _ (d : Drive) (h : Sound d) where
               (le-leb _ _ (ltb-false _ _ past)) (lt-ltb 0 d.next h.next.0) (λ block i c _. apart_from n start len d.rows h.rows.seventeen sharing block i c);
           keys = put-keys d.next d.vault words h.keys h.next.0 ws more spare;
         },
-        (put-done d.next d.vault words h.keys h.next.0 ws more spare, refl),
+        ((put-done d.next d.vault words h.keys h.next.0 ws more spare, tt), refl),
       )
 
   -- ---- SetRange
@@ -244,7 +244,7 @@ module _ (d : Drive) (h : Sound d) where
           rows = rows-free d.units d.rows h.rows r x lt (ap is_global e) refl refl (λ i m a b c _ _. ap (unit_row_of m) e);
           keys = drop-keys d.next d.vault words h.keys ws k fewer;
         },
-        (drop-done d.next d.vault words h.keys ws k fewer, refl),
+        ((drop-done d.next d.vault words h.keys ws k fewer, tt), refl),
       )
 
   freed-unit : (r n : ℕ) → kind_of d r ≡ UnitRow n → is_there (RangeRowOf n) d.rows ≡ false → Sound (freed d r)
@@ -258,10 +258,10 @@ module _ (d : Drive) (h : Sound d) where
 
   pub given-up-sound : (r : ℕ) (keep : Bool) (kind : Kind) → kind_of d r ≡ kind → (is_a_unit_row kind && is_there (RangeRowOf (unit_or kind d.numbering.mark)) d.rows) ≡ false → ((is_a_unit_row kind && not keep) && ltb 4294967295 (d.next + 1)) ≡ false
       → Sound (given_up d r keep kind) × NoneRefused d.vault (requests_of_deassign d keep kind) (given_up d r keep kind).vault
-  given-up-sound r keep Free e none last = (h, refl)
-  given-up-sound r keep Global e none last = (h, refl)
-  given-up-sound r true (UnitRow n) e none last = (freed-unit r n e none, refl)
-  given-up-sound r false (UnitRow n) e none last = let f = fresh-sound (freed d r) (freed-unit r n e none) (omega (arith, ltb-false 4294967295 (d.next + 1) last)) (TheUnit n) (ap (row_fits d.units d.rows) (sym e) ∙ h.rows.each r) in (f.0, (f.1, refl))
+  given-up-sound r keep Free e none last = (h, (tt, refl))
+  given-up-sound r keep Global e none last = (h, (tt, refl))
+  given-up-sound r true (UnitRow n) e none last = (freed-unit r n e none, (tt, refl))
+  given-up-sound r false (UnitRow n) e none last = let f = fresh-sound (freed d r) (freed-unit r n e none) (omega (arith, ltb-false 4294967295 (d.next + 1) last)) (TheUnit n) (ap (row_fits d.units d.rows) (sym e) ∙ h.rows.each r) in (f.0, ((f.1, tt), refl))
   given-up-sound r keep (RangeRow n s l k) e none last = freed-range r n s l k e
 
   -- ---- fresh keys
@@ -276,7 +276,7 @@ module _ (d : Drive) (h : Sound d) where
   reset-sound =
       let make : Row → Row = λ r. with_flags (relocked r.flags) r in
       alike-sound (map make d.rows) d.policy (length-map d.rows make) (map-alike (λ (r : Row). r.kind) make (λ r. refl) d.rows)
-      (λ r l f. ap (λ (x : Row). x.flags) (get_or-map make d.rows r no_row no_row (within d.units d.rows h.rows r l)) ∙ ap relocked (h.rows.blanks r l f))
+      (λ r l f. ap (λ (x : Row). x.flags) (get_or-map make d.rows r free_row free_row (within d.units d.rows h.rows r l)) ∙ ap relocked (h.rows.blanks r f))
       (policy-alike (map make d.rows) (length-map d.rows make) (map-alike (λ (r : Row). r.standing) make (λ r. refl) d.rows))
 
   pub reactivate-sound : (selection policy : ℕ) → leb (2 ^ 17) selection ≡ false → ltb 1 policy ≡ false → Sound (reactivated d selection policy)

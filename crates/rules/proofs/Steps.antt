@@ -46,7 +46,7 @@ module _ (d : Drive) (h : Sound d) where
             subst choose (sym u) (range-row-sound d h n start len standing ex u q.0 q.1.0 (not-false _ q.1.1.1.1.0) q.1.1.1.1.1.0 q.1.1.1.1.1.1.0)
         | inr u ↦
             let q = branch false u in
-            subst choose (sym u) (unit-row-sound d h n standing ex u (not-false _ q.1.1.1.0), refl)
+            subst choose (sym u) (unit-row-sound d h n standing ex u (not-false _ q.1.1.1.0), (tt, refl))
       ]
 
   set-range-kept : (caller r start len : ℕ) → set_range_refusal d caller r start len ≡ None → Sound (range_set d r start len)
@@ -63,10 +63,10 @@ module _ (d : Drive) (h : Sound d) where
   left-kept (Deassign caller r keep) e =
       let p = passed-in d (deassign_checks d caller r keep) caller e in
       given-up-sound d h r keep (kind_of d r) refl p.1.1.1.1.1.1.0 p.1.1.1.1.1.1.1.1.0
-  left-kept (SetRange caller r start len) e = (set-range-kept caller r start len (opened caller _ e), refl)
+  left-kept (SetRange caller r start len) e = (set-range-kept caller r start len (opened caller _ e), (tt, refl))
   left-kept (SetLocks caller r flags) e =
       let p = passed-in d (set_locks_checks d caller r) caller e in
-      (locks-sound d h r flags p.1.0, refl)
+      (locks-sound d h r flags p.1.0, (tt, refl))
   left-kept (GenKey caller r) e =
       let p = passed-in d (gen_key_checks d caller r) caller e in
       generated-sound d h r p.1.1.1.0
@@ -78,13 +78,13 @@ module _ (d : Drive) (h : Sound d) where
   left-kept (Reactivate caller selection policy) e =
       let p = passed-in d (reactivate_checks d caller selection policy) caller e in
       let q = or_parts (leb (2 ^ 17) selection) (ltb 1 policy) p.1.0 in
-      (reactivate-sound d h selection policy q.0 q.1, refl)
+      (reactivate-sound d h selection policy q.0 q.1, (tt, refl))
   left-kept (Create n blocks) e = create-sound d h n blocks e
   left-kept (Delete n) e = delete-sound d h n e
   left-kept (Format n) e =
       let p = passed d (format_checks d n) e in
       format-sound d h n (not-false _ p.0) p.1.1.0
-  left-kept (Reset caller) e = (reset-sound d h, refl)
+  left-kept (Reset caller) e = (reset-sound d h, (tt, refl))
 
 pub after-sound : (d : Drive) (c : Call) → Sound d → Sound (after d c)
 after-sound d c h = go (refusal d c) refl

@@ -1,11 +1,12 @@
 -- Laws of runs, whatever the states, the calls and the answers are. Assumes nothing.
 use Rattle.std.proofs.Common.{◌≡◌, ℕ, zero, suc, ◌+◌, ◌<◌, ◌≤◌, Bool, true, false, List, [], ◌∷◌, length, get_or, refl, ap, ◌∙◌, ⊎_elim, add-one, arith}
 use Rattle.std.proofs.lemmas.Bool.{cases_Bool, both_ways}
-use Rattle.rules.specs.Walk.{answers_by, points_by}
+use Rattle.std.specs.List.{scan}
+use Rattle.rules.specs.Walk.{points_by}
 
 module _ {S C A : Type 0} (next : S → C → S) (answer : S → C → A) where
   -- The answer to a call is that of the state it meets.
-  pub answer_at : (s : S) (cs : List C) (e : S) (d : C) (a : A) (k : ℕ) → k < length cs → get_or (answers_by next answer s cs) k a ≡ answer (get_or (points_by next s cs) k e) (get_or cs k d)
+  pub answer_at : (s : S) (cs : List C) (e : S) (d : C) (a : A) (k : ℕ) → k < length cs → get_or (scan next answer s cs) k a ≡ answer (get_or (points_by next s cs) k e) (get_or cs k d)
   answer_at s [] e d a k lt = absurd (omega arith)
   answer_at s (c ∷ cs) e d a zero lt = refl
   answer_at s (c ∷ cs) e d a (suc k) lt = answer_at (next s c) cs e d a k (omega arith)

@@ -88,8 +88,8 @@ absent_by s least m (Swap old new) l b h = absent-either s (swap_refusal m old n
 absent_by s least m (Drop t) l b h = absent-either s (drop_refusal m t) m (drops t m.held) h (has-remove (λ x. x) s t m.held h)
 
 absent-after : (s least : ℕ) (m : Meaning) (asked : List Request) (last : Meaning) → s < least → AllByRecursion (BringsIn least) asked → NoneRefused m asked last → holds s m.held ≡ false → holds s last.held ≡ false
-absent-after s least m [] last l b n h = ap (λ (v : Meaning). holds s v.held) n ∙ h
-absent-after s least m (request ∷ asked) last l b n h = absent-after s least (vault_after m request) asked last l b.1 n.1 (absent_by s least m request l b.0 h)
+absent-after s least m [] last l b n h = ap (λ (v : Meaning). holds s v.held) n.1 ∙ h
+absent-after s least m (request ∷ asked) last l b n h = absent-after s least (vault_after m request) asked last l b.1 (n.0.1, n.1) (absent_by s least m request l b.0 h)
 
 -- ---- the next serial never falls
 left-grows : (d : Drive) (c : Call) → d.next ≤ (left d c).next

@@ -3,7 +3,7 @@ use Rattle.std.proofs.Common.{◌≡◌, ℕ, ◌+◌, ◌-◌, ◌<◌, List, �
 use Rattle.std.proofs.lemmas.List.{length-map, length-append, map-set, set-append_left, set-append_right, get_or_append_left, get_or-append_right, get_or-map}
 use Rattle.rules.specs.declared.row.Row.{Row}
 use Rattle.rules.specs.declared.unit.LogicalUnit.{LogicalUnit}
-use Rattle.rules.specs.Rows.{no_row, row}
+use Rattle.rules.specs.Rows.{free_row, row}
 use Rattle.rules.specs.Sound.{serial_of, row_key, serials}
 use Rattle.rules.specs.Units.{no_unit}
 
@@ -29,7 +29,7 @@ module _ (units : List LogicalUnit) (rows : List Row) where
     row_word =
         get_or-append_right (map serial_of units) (map row_key rows) (length units) (length units + r) 0 size (omega arith)
         ∙ ap (λ k. get_or (map row_key rows) k 0) back
-        ∙ get_or-map row_key rows r no_row 0 l
+        ∙ get_or-map row_key rows r free_row 0 l
 
     pub row_written : (x : Row) → serials units (set rows r x) ≡ set (serials units rows) (length units + r) (row_key x)
     row_written x =

@@ -1,5 +1,6 @@
 -- Fresh keys in the place of old ones.
 use Rattle.std.specs.Prelude.{◌≡◌, ℕ, true, not, List, [], ◌∷◌, map, filter}
+use Rattle.std.specs.List.{fold}
 use Rattle.vault.specs.Meaning.{swap_after}
 use Rattle.rules.specs.declared.row.Kind.{Kind}
 use Rattle.rules.specs.declared.row.Kind.TheVariants.{Free, Global, UnitRow, RangeRow}
@@ -11,7 +12,6 @@ use Rattle.rules.specs.declared.unit.LogicalUnit.{LogicalUnit}
 use Rattle.rules.specs.Drive.{Drive, with_units, with_rows, with_vault, row_of, kind_of, spent}
 use Rattle.rules.specs.Rows.{is_range_row, with_serial, with_kind, with_row, is_there, all_rows, key_or}
 use Rattle.rules.specs.Units.{exists, unit, with_key}
-use Rattle.rules.specs.Walk.{after_by}
 
 -- the key that a unit or a range row has
 abbrev pub key_of : Drive → Holder → ℕ
@@ -34,7 +34,7 @@ fresh_key d holder = spent 1 (with_vault (swap_after d.vault (key_of d holder) d
 
 -- each of these gets a fresh key, in this order
 unfoldable pub fresh_keys : Drive → List Holder → Drive
-fresh_keys d holders = after_by fresh_key d holders
+fresh_keys d holders = fold fresh_key d holders
 
 -- ---- what gets fresh keys
 -- the units under row 0, in rising order

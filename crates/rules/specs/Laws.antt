@@ -1,5 +1,6 @@
 -- What holds of every run: a drive that is blank or that a sheet can describe, and then any list of calls, accepted or refused.
 use Rattle.std.specs.Prelude.{◌≡◌, ℕ, ◌+◌, ◌<◌, ◌≤◌, Bool, true, false, ◌&&◌, ◌⊎◌, List, length, None, Ok, Err, filter, nat_lt, slice_index_or}
+use Rattle.std.specs.List.{scan}
 use Rattle.vault.specs.Meaning.{Meaning, sound}
 use Rattle.vault.specs.Serials.{holds}
 use Rattle.rules.specs.declared.access.Access.{Access}
@@ -20,7 +21,7 @@ use Rattle.rules.specs.Rows.{covers, is_range_row, controlling_row}
 use Rattle.rules.specs.Sessions.{owner}
 use Rattle.rules.specs.Sound.{Sound}
 use Rattle.rules.specs.Units.{exists, unit}
-use Rattle.rules.specs.Walk.{answers_by, points_by}
+use Rattle.rules.specs.Walk.{points_by}
 
 -- ---- runs
 -- a blank drive: laid out over a vault that the check does not refuse
@@ -39,7 +40,7 @@ abbrev pub call_at : List Call → ℕ → Call
 call_at calls k = slice_index_or calls k (Reset 0)
 
 abbrev pub answered_at : Drive → List Call → ℕ → Answer
-answered_at d calls k = slice_index_or (answers_by after answer d calls) k (Ok Success)
+answered_at d calls k = slice_index_or (scan after answer d calls) k (Ok Success)
 
 abbrev pub AtEveryPoint : (Drive → Type 0) → Type 0
 AtEveryPoint Law = (d : Drive) → Begins d → (calls : List Call) (k : ℕ) → k ≤ length calls → Law (point d calls k)
@@ -98,14 +99,15 @@ has_block d n block = exists n d.units && nat_lt block (unit n d.units).blocks
 abbrev pub block_key : Drive → ℕ → ℕ → ℕ
 block_key d n block = (control_of d.rows (unit n d.units) block).serial
 
--- between the two drives the block was given a fresh serial: one that had not been given before
-pub record FreshlyKeyed (d e : Drive) (n block : ℕ) : Type 0 where
-  pub there : has_block e n block ≡ true
-  pub fresh : d.next ≤ block_key e n block
-  pub given : block_key e n block < e.next
+-- the block was given a fresh serial: its serial afterwards is not below the next one before, and below the next one after
+pub record FreshlyKeyed (before after : Drive) (n block : ℕ) : Type 0 where
+  pub there : has_block after n block ≡ true
+  pub fresh : before.next ≤ block_key after n block
+  pub given : block_key after n block < after.next
 
--- the call is an accepted SetLocks of the row that controls the block, by the owner of that row
+-- the block is there, and the call is an accepted SetLocks of the row that controls it, by the owner of that row
 pub record SetByOwner (d : Drive) (n block : ℕ) (call : Call) (answered : Answer) : Type 0 where
+  pub there : has_block d n block ≡ true
   pub caller : ℕ
   pub flags : Flags
   pub call_is : call ≡ SetLocks caller (controlling_row d.rows n block) flags

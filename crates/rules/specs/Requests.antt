@@ -1,5 +1,6 @@
 -- What a call asks of the vault.
 use Rattle.std.specs.Prelude.{◌≡◌, ℕ, Bool, cond, List, [], ◌∷◌, None, Option}
+use Rattle.std.specs.List.{AllByRecursion, fold, scan}
 use Rattle.vault.specs.declared.refusal.VaultRefusal.{VaultRefusal}
 use Rattle.vault.specs.Meaning.{Meaning, put_refusal, put_after, swap_refusal, swap_after, drop_refusal, drop_after}
 use Rattle.rules.specs.declared.call.Call.{Call}
@@ -12,7 +13,6 @@ use Rattle.rules.specs.Drive.{Drive, kind_of}
 use Rattle.rules.specs.FreshKeys.{key_of, fresh_key, stands_for, unit_and_ranges}
 use Rattle.rules.specs.Rows.{is_there}
 use Rattle.rules.specs.Units.{unit}
-use Rattle.rules.specs.Walk.{answers_by}
 
 pub data Request : Type 0 where
   Put : ℕ → Request
@@ -31,15 +31,14 @@ vault_after m (Drop s) = drop_after m s
 
 -- made one after the other on the first vault, none of these is refused, and they leave the last one
 abbrev pub NoneRefused : Meaning → List Request → Meaning → Type 0
-NoneRefused m [] last = last ≡ m
-NoneRefused m (request ∷ requests) last = (vault_refusal m request ≡ None) × NoneRefused (vault_after m request) requests last
+NoneRefused first requests last = AllByRecursion (λ refusal. refusal ≡ None) (scan vault_after vault_refusal first requests) × (last ≡ fold vault_after first requests)
 
 -- a fresh key in the place of each old one
 abbrev pub swap_of : Drive → Holder → Request
 swap_of d holder = Swap (key_of d holder) d.next
 
 unfoldable pub swaps : Drive → List Holder → List Request
-swaps d holders = answers_by fresh_key swap_of d holders
+swaps d holders = scan fresh_key swap_of d holders
 
 abbrev pub requests_of_deassign : Drive → Bool → Kind → List Request
 requests_of_deassign d keep Free = []

@@ -46,13 +46,9 @@ free_row = record { kind = Free; standing = Shared; flags = blank }
 abbrev pub global_row : Row
 global_row = record { kind = Global; standing = Shared; flags = blank }
 
--- what stands for a row above 16; no accepted call meets it
-abbrev pub no_row : Row
-no_row = record { kind = Free; standing = Shared; flags = record { read_lock_enabled = false; write_lock_enabled = false; read_locked = false; write_locked = false; lock_on_reset = false } }
-
--- the row with this number
+-- the row with this number; a free one for a number above 16, which no accepted call meets
 abbrev pub row : ℕ → List Row → Row
-row r rows = slice_index_or rows r no_row
+row r rows = slice_index_or rows r free_row
 
 abbrev pub is_free : Kind → Bool
 is_free Free = true

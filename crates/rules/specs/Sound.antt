@@ -50,7 +50,7 @@ pub record SoundRows (units : List LogicalUnit) (rows : List Row) : Type 0 where
   pub seventeen : length rows ≡ 17
   pub global : (row 0 rows).kind ≡ Global
   pub others : (r : ℕ) → 0 < r → is_global (row r rows).kind ≡ false
-  pub blanks : (r : ℕ) → r < 17 → is_free (row r rows).kind ≡ true → (row r rows).flags ≡ blank
+  pub blanks : (r : ℕ) → is_free (row r rows).kind ≡ true → (row r rows).flags ≡ blank
   pub each : (r : ℕ) → row_fits units rows (row r rows).kind ≡ true
   pub unit_rows : (n : ℕ) → AtMostOne (UnitRowOf n) rows
   pub ranges : (n block : ℕ) → AtMostOne (RangeOver n block) rows
