@@ -20,7 +20,7 @@ use Rattle.rules.specs.declared.unit.LogicalUnit.{LogicalUnit}
 use Rattle.rules.specs.Commands.{create_checks, create_refusal, new_unit, created, delete_checks, delete_refusal, deleted, formatted, was_reset}
 use Rattle.rules.specs.Drive.{Drive, with_rows, with_policy, row_of, kind_of, unused_keys}
 use Rattle.rules.specs.FreshKeys.{holders_of, unit_and_ranges}
-use Rattle.rules.specs.Methods.{row_to_take, taken, unit_row_assigned, range_row_assigned, freed, given_up, range_set, locks_set, key_generated, reactivated_row, reactivated}
+use Rattle.rules.specs.Methods.{row_to_take, other_rows, unit_row_assigned, range_row_assigned, freed, given_up, range_set, locks_set, key_generated, reactivated_row, reactivated}
 use Rattle.rules.specs.Requests.{Put, Drop, NoneRefused, swaps, requests_of_deassign}
 use Rattle.rules.specs.Rows.{blank, relocked, free_row, row, is_free, is_a_unit_row, unit_or, key_or, with_range, is_single_user, with_flags, with_kind, anew, covers, unit_row_of, range_row_of, range_over, is_there}
 use Rattle.rules.specs.Sound.{unit_fits, is_global, row_fits, SoundRows, serial_of, row_key, serials, policy_fits, Sound}
@@ -212,7 +212,7 @@ module _ (d : Drive) (h : Sound d) where
       )
 
   -- ---- SetRange
-  pub range-set-sound : (r start len n s l k : ℕ) → kind_of d r ≡ RangeRow n s l k → ltb (unit n d.units).blocks (start + len) ≡ false → is_there (RangeSharing n start len) (taken d r Free) ≡ false → Sound (range_set d r start len)
+  pub range-set-sound : (r start len n s l k : ℕ) → kind_of d r ≡ RangeRow n s l k → ltb (unit n d.units).blocks (start + len) ≡ false → is_there (RangeSharing n start len) (other_rows d r) ≡ false → Sound (range_set d r start len)
   range-set-sound r start len n s l k e past sharing =
       let x : Row = with_kind (with_range start len (kind_of d r)) (row_of d r) in
       let xe : x.kind ≡ RangeRow n start len k = ap (with_range start len) e in

@@ -12,7 +12,7 @@ use Rattle.rules.specs.Calls.{refusal, left, after}
 use Rattle.rules.specs.Commands.{format_checks}
 use Rattle.rules.specs.Drive.{Drive, kind_of, unit_of}
 use Rattle.rules.specs.FreshKeys.{holders_of}
-use Rattle.rules.specs.Methods.{ends_past, shares_block, unit_row_checks, range_row_checks, assign_checks, assign_refusal, taken, unit_row_assigned, range_row_assigned, assigned, deassign_checks, set_range_checks, set_range_refusal, range_set, set_locks_checks, gen_key_checks, key_generated, erase_checks, reactivate_checks}
+use Rattle.rules.specs.Methods.{ends_past, shares_block, unit_row_checks, range_row_checks, assign_checks, assign_refusal, other_rows, unit_row_assigned, range_row_assigned, assigned, deassign_checks, set_range_checks, set_range_refusal, range_set, set_locks_checks, gen_key_checks, key_generated, erase_checks, reactivate_checks}
 use Rattle.rules.specs.Requests.{Request, Put, NoneRefused, requests}
 use Rattle.rules.specs.Rows.{blank, unit_or, is_there}
 use Rattle.rules.specs.Sound.{Sound}
@@ -55,7 +55,7 @@ module _ (d : Drive) (h : Sound d) where
       let q = range-parts (kind_of d r) (not-false _ p.1.1.0) in
       let is : unit_of d r ≡ q.0 = ap (λ k. unit_or k d.numbering.mark) q.4 in
       let past : ends_past d q.0 start len ≡ false = ap (λ n. ends_past d n start len) (sym is) ∙ p.1.1.1.1.0 in
-      let sharing : shares_block (taken d r Free) q.0 start len ≡ false = ap (λ n. shares_block (taken d r Free) n start len) (sym is) ∙ p.1.1.1.1.1.0 in
+      let sharing : shares_block (other_rows d r) q.0 start len ≡ false = ap (λ n. shares_block (other_rows d r) n start len) (sym is) ∙ p.1.1.1.1.1.0 in
       range-set-sound d h r start len q.0 q.1 q.2 q.3 q.4 past sharing
 
   pub left-kept : (c : Call) → refusal d c ≡ None → Kept d (requests d c) (left d c)

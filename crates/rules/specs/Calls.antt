@@ -1,5 +1,5 @@
 -- A call as a value: when it is refused, what it leaves, and what it answers.
-use Rattle.std.specs.Prelude.{Bool, is_ok, Option, Result, count_ones}
+use Rattle.std.specs.Prelude.{Bool, is_ok, Option, Result}
 use Rattle.vault.specs.Checks as checks
 use Rattle.vault.specs.Checks.{unless}
 use Rattle.rules.specs.declared.call.Accepted.{Accepted}
@@ -9,7 +9,7 @@ use Rattle.rules.specs.declared.call.Call.TheVariants.{Assign, Deassign, SetRang
 use Rattle.rules.specs.declared.cause.Cause.{Cause}
 use Rattle.rules.specs.Commands.{create_refusal, created, delete_refusal, deleted, format_refusal, formatted, reset_refusal, was_reset}
 use Rattle.rules.specs.Drive.{Drive}
-use Rattle.rules.specs.Methods.{assign_refusal, assigned, assigned_row, deassign_refusal, deassigned, set_range_refusal, range_set, set_locks_refusal, locks_set, gen_key_refusal, key_generated, erase_refusal, erased, reactivate_refusal, reactivated}
+use Rattle.rules.specs.Methods.{assign_refusal, assigned, assigned_row, deassign_refusal, deassigned, set_range_refusal, range_set, set_locks_refusal, locks_set, gen_key_refusal, key_generated, erase_refusal, erased, reactivate_refusal, reactivated, rows_selected}
 use Rattle.rules.specs.Sessions.{in_session}
 
 -- a method comes in a session, and Reset is shown one
@@ -48,7 +48,7 @@ said d (SetRange caller r start length) = Success
 said d (SetLocks caller r flags) = Success
 said d (GenKey caller r) = Success
 said d (Erase caller r) = Success
-said d (Reactivate caller selection policy) = SingleUserRows (count_ones selection)
+said d (Reactivate caller selection policy) = SingleUserRows (rows_selected selection)
 said d (Create n blocks) = Success
 said d (Delete n) = Success
 said d (Format n) = Success

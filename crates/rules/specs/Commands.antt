@@ -10,7 +10,7 @@ use Rattle.rules.specs.declared.unit.LogicalUnit.{LogicalUnit}
 use Rattle.rules.specs.Causes.{Done}
 use Rattle.rules.specs.Drive.{Drive, with_units, with_rows, with_vault, row_locked, spent, run_out, unused_keys, refused_by}
 use Rattle.rules.specs.FreshKeys.{fresh_keys, unit_and_ranges}
-use Rattle.rules.specs.Rows.{relocked, with_flags, is_there, all_rows, row_under}
+use Rattle.rules.specs.Rows.{has_unit_row, relocked, with_flags, is_there, all_rows, row_under}
 use Rattle.rules.specs.Units.{valid, exists, unit, with_unit, without_unit}
 
 -- ---- Create: a unit with this number and so many blocks
@@ -47,7 +47,7 @@ create_answer d n blocks = answer (create_refusal d n blocks) tt
 abbrev pub delete_checks : Drive → ℕ → List (Bool × Cause)
 delete_checks d n =
     (not (exists n d.units), NoSuchUnit)
-    ∷ (is_there (UnitRowOf n) d.rows, HasUnitRow)
+    ∷ (has_unit_row n d.rows, HasUnitRow)
     ∷ (row_locked d 0, Locked)
     ∷ []
 

@@ -53,11 +53,11 @@ abbrev pub row_locked : Drive → ℕ → Bool
 row_locked d r = locked (row_of d r).flags
 
 -- ---- its keys
--- so many serials are given out
+-- n serials more are given out
 abbrev pub spent : ℕ → Drive → Drive
 spent n d = record d { next = d.next + n }
 
--- the largest serial is 4,294,967,294
+-- with n more the serials would pass 4,294,967,294, the largest
 abbrev pub run_out : ℕ → Drive → Bool
 run_out n d = nat_lt 4294967295 (d.next + n)
 

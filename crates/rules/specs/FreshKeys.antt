@@ -10,7 +10,7 @@ use Rattle.rules.specs.declared.unit.Holder.{Holder}
 use Rattle.rules.specs.declared.unit.Holder.TheVariants.{TheUnit, TheRow}
 use Rattle.rules.specs.declared.unit.LogicalUnit.{LogicalUnit}
 use Rattle.rules.specs.Drive.{Drive, with_units, with_rows, with_vault, row_of, kind_of, spent}
-use Rattle.rules.specs.Rows.{is_range_row, with_serial, with_kind, with_row, is_there, all_rows, key_or}
+use Rattle.rules.specs.Rows.{is_range_row, with_serial, with_kind, with_row, has_unit_row, all_rows, key_or}
 use Rattle.rules.specs.Units.{exists, unit, with_key}
 
 -- the key that a unit or a range row has
@@ -39,19 +39,19 @@ fresh_keys d holders = fold fresh_key d holders
 -- ---- what gets fresh keys
 -- the units under row 0, in rising order
 abbrev pub units_under_global : List Row → List LogicalUnit → List Holder
-units_under_global rows units = map (λ u. TheUnit u.number) (filter (λ u. not (is_there (UnitRowOf u.number) rows)) units)
+units_under_global rows units = map (λ u. TheUnit u.number) (filter (λ u. not (has_unit_row u.number rows)) units)
 
--- by GenKey of a row of this kind: the range row; the unit of a unit row; for row 0 every unit without a unit row
+-- for a range row that row; for a unit row its unit; for row 0 every unit without a unit row
 abbrev pub holders_of : Drive → ℕ → Kind → List Holder
 holders_of d r Free = []
 holders_of d r Global = units_under_global d.rows d.units
 holders_of d r (UnitRow u) = TheUnit u ∷ []
 holders_of d r (RangeRow u start length serial) = TheRow r ∷ []
 
--- what row r stands for
-abbrev pub stands_for : Drive → ℕ → List Holder
-stands_for d r = holders_of d r (kind_of d r)
+-- what GenKey of row r gives fresh keys, in this order
+abbrev pub renewed_by : Drive → ℕ → List Holder
+renewed_by d r = holders_of d r (kind_of d r)
 
--- by Format of a unit: the unit, then its range rows in rising order
+-- what Format of a unit gives fresh keys, in this order: the unit, then its range rows in rising order
 abbrev pub unit_and_ranges : Drive → ℕ → List Holder
 unit_and_ranges d n = TheUnit n ∷ map TheRow (all_rows (RangeRowOf n) d.rows)

@@ -9,7 +9,7 @@ use Rattle.rules.specs.declared.cause.Cause.TheVariants.{BlockLocked}
 use Rattle.rules.specs.declared.unit.Holder.{Holder}
 use Rattle.rules.specs.declared.unit.Holder.TheVariants.{TheUnit}
 use Rattle.rules.specs.Drive.{Drive}
-use Rattle.rules.specs.FreshKeys.{HasKey, key_of, fresh_keys, stands_for, unit_and_ranges}
+use Rattle.rules.specs.FreshKeys.{HasKey, key_of, fresh_keys, renewed_by, unit_and_ranges}
 use Rattle.rules.specs.Laws.{Begins, point, call_at, answered_at}
 use Rattle.rules.specs.Questions.{block_locked, access_refusal}
 use Rattle.rules.specs.Rows.{is_single_user, covers, shares, controlling_row}
@@ -53,5 +53,5 @@ pub record KeyedInOrder (d : Drive) (holders : List Holder) : Type 0 where
 
 abbrev pub FreshKeysInOrder : Type 0
 FreshKeysInOrder = (d : Drive) → Sound d
-    → ((r : ℕ) → KeyedInOrder d (stands_for d r))
+    → ((r : ℕ) → KeyedInOrder d (renewed_by d r))
     × ((n : ℕ) → exists n d.units ≡ true → KeyedInOrder d (unit_and_ranges d n))

@@ -16,8 +16,8 @@ use Rattle.rules.specs.declared.row.Standing.TheVariants.{Shared, SingleUser}
 use Rattle.rules.specs.declared.unit.Holder.TheVariants.{TheUnit}
 use Rattle.rules.specs.Causes.{Done}
 use Rattle.rules.specs.Drive.{Drive, with_rows, with_policy, with_vault, row_of, kind_of, unit_of, single_user, row_locked, spent, run_out, unused_keys, refused_by}
-use Rattle.rules.specs.FreshKeys.{fresh_key, fresh_keys, stands_for}
-use Rattle.rules.specs.Rows.{blank, lock_enabled, is_free, is_a_unit_row, is_range_row, with_range, with_row, with_flags, with_kind, anew, lowest_row, is_there, numbered, row_under}
+use Rattle.rules.specs.FreshKeys.{fresh_key, fresh_keys, renewed_by}
+use Rattle.rules.specs.Rows.{blank, lock_enabled, is_free, is_a_unit_row, is_range_row, with_range, with_row, with_flags, with_kind, anew, lowest_row, is_there, numbered, row_under, has_unit_row}
 use Rattle.rules.specs.Sessions.{admins, owner, mover, is_not}
 use Rattle.rules.specs.Units.{exists, unit}
 
@@ -56,38 +56,38 @@ abbrev pub assign_checks : Drive → ℕ → ℕ → ℕ → ℕ → Standing �
 assign_checks d caller n start length standing =
     (is_not caller admins, CallerNotAllowed)
     ∷ (not (exists n d.units), NoSuchUnit)
-    ∷ cond (is_there (UnitRowOf n) d.rows) (range_row_checks d n start length standing) (unit_row_checks d start length standing)
+    ∷ cond (has_unit_row n d.rows) (range_row_checks d n start length standing) (unit_row_checks d start length standing)
 
 abbrev pub assign_refusal : Drive → ℕ → ℕ → ℕ → ℕ → Standing → Option Cause
 assign_refusal d caller n start length standing = refused_by d (assign_checks d caller n start length standing)
 
--- the lowest free row of the standing that is wanted
+-- the lowest free row of the standing that is wanted; 0 where there is none, which no accepted call meets
 abbrev pub row_to_take : Drive → Standing → ℕ
 row_to_take d standing = unwrap_or (lowest_row (FreeRow standing) d.rows) 0
 
--- row r becomes one of this kind, with blank flags
-abbrev pub taken : Drive → ℕ → Kind → List Row
-taken d r kind = with_row r (anew kind (row_of d r)) d.rows
+-- row r becomes one of this kind, with blank flags; its standing stays
+abbrev pub become : Drive → ℕ → Kind → List Row
+become d r kind = with_row r (anew kind (row_of d r)) d.rows
 
 -- the unit's key stays
 abbrev pub unit_row_assigned : Drive → ℕ → Standing → Drive
-unit_row_assigned d n standing = with_rows (taken d (row_to_take d standing) (UnitRow n)) d
+unit_row_assigned d n standing = with_rows (become d (row_to_take d standing) (UnitRow n)) d
 
 -- the range row gets a fresh key, which is put
 abbrev pub range_row_assigned : Drive → ℕ → ℕ → ℕ → Standing → Drive
 range_row_assigned d n start length standing =
-    spent 1 (with_vault (put_after d.vault d.next) (with_rows (taken d (row_to_take d standing) (RangeRow n start length d.next)) d))
+    spent 1 (with_vault (put_after d.vault d.next) (with_rows (become d (row_to_take d standing) (RangeRow n start length d.next)) d))
 
 abbrev pub assigned : Drive → ℕ → ℕ → ℕ → Standing → Drive
 assigned d n start length standing =
-    cond (is_there (UnitRowOf n) d.rows) (range_row_assigned d n start length standing) (unit_row_assigned d n standing)
+    cond (has_unit_row n d.rows) (range_row_assigned d n start length standing) (unit_row_assigned d n standing)
 
 abbrev pub assign_after : Drive → ℕ → ℕ → ℕ → ℕ → Standing → Drive
 assign_after d caller n start length standing = unless (assign_refusal d caller n start length standing) d (assigned d n start length standing)
 
 -- the row's number, and whether it is a unit row
 abbrev pub assigned_row : Drive → ℕ → Standing → ℕ × Bool
-assigned_row d n standing = (row_to_take d standing, not (is_there (UnitRowOf n) d.rows))
+assigned_row d n standing = (row_to_take d standing, not (has_unit_row n d.rows))
 
 abbrev pub assign_answer : Drive → ℕ → ℕ → ℕ → ℕ → Standing → Result (ℕ × Bool) Cause
 assign_answer d caller n start length standing = answer (assign_refusal d caller n start length standing) (assigned_row d n standing)
@@ -115,7 +115,7 @@ deassign_refusal d caller r keep = refused_by d (deassign_checks d caller r keep
 
 -- the row becomes free
 abbrev pub freed : Drive → ℕ → Drive
-freed d r = with_rows (taken d r Free) d
+freed d r = with_rows (become d r Free) d
 
 -- a range row's key is dropped; a unit row's unit keeps its key, or gets a fresh one
 abbrev pub given_up : Drive → ℕ → Bool → Kind → Drive
@@ -133,7 +133,11 @@ deassign_after d caller r keep = unless (deassign_refusal d caller r keep) d (de
 abbrev pub deassign_answer : Drive → ℕ → ℕ → Bool → Done
 deassign_answer d caller r keep = answer (deassign_refusal d caller r keep) tt
 
--- ---- SetRange: a range row over other blocks; its own old range does not count, so that the row is looked at as if it were free
+-- ---- SetRange: a range row over other blocks
+-- the rows with this one's own range out of account
+abbrev pub other_rows : Drive → ℕ → List Row
+other_rows d r = become d r Free
+
 abbrev pub set_range_checks : Drive → ℕ → ℕ → ℕ → ℕ → List (Bool × Cause)
 set_range_checks d caller r start length =
     (nat_lt 16 r, NoSuchRow)
@@ -141,7 +145,7 @@ set_range_checks d caller r start length =
     ∷ (not (is_range_row (kind_of d r)), WrongKind)
     ∷ (is_not caller (mover d.policy r (row_of d r)), CallerNotAllowed)
     ∷ (ends_past d (unit_of d r) start length, PastUnit)
-    ∷ (shares_block (taken d r Free) (unit_of d r) start length, SharesBlock)
+    ∷ (shares_block (other_rows d r) (unit_of d r) start length, SharesBlock)
     ∷ (row_locked d r || row_locked d (row_under d.rows (unit_of d r)), Locked)
     ∷ []
 
@@ -178,20 +182,20 @@ set_locks_after d caller r flags = unless (set_locks_refusal d caller r) d (lock
 abbrev pub set_locks_answer : Drive → ℕ → ℕ → Done
 set_locks_answer d caller r = answer (set_locks_refusal d caller r) tt
 
--- ---- GenKey: fresh keys for what a row stands for
+-- ---- GenKey: fresh keys
 abbrev pub gen_key_checks : Drive → ℕ → ℕ → List (Bool × Cause)
 gen_key_checks d caller r =
     (nat_lt 16 r, NoSuchRow)
     ∷ (is_free (kind_of d r), RowFree)
     ∷ (is_not caller (owner r (row_of d r)), CallerNotAllowed)
-    ∷ (run_out (length (stands_for d r)) d, SerialsRunOut)
+    ∷ (run_out (length (renewed_by d r)) d, SerialsRunOut)
     ∷ []
 
 abbrev pub gen_key_refusal : Drive → ℕ → ℕ → Option Cause
 gen_key_refusal d caller r = refused_by d (gen_key_checks d caller r)
 
 abbrev pub key_generated : Drive → ℕ → Drive
-key_generated d r = fresh_keys d (stands_for d r)
+key_generated d r = fresh_keys d (renewed_by d r)
 
 abbrev pub gen_key_after : Drive → ℕ → ℕ → Drive
 gen_key_after d caller r = unless (gen_key_refusal d caller r) d (key_generated d r)
@@ -206,7 +210,7 @@ erase_checks d caller r =
     ∷ (is_free (kind_of d r), RowFree)
     ∷ (not (single_user d r), WrongKind)
     ∷ (is_not caller (owner r (row_of d r)) && is_not caller admins, CallerNotAllowed)
-    ∷ (run_out (length (stands_for d r)) d, SerialsRunOut)
+    ∷ (run_out (length (renewed_by d r)) d, SerialsRunOut)
     ∷ []
 
 abbrev pub erase_refusal : Drive → ℕ → ℕ → Option Cause
@@ -246,6 +250,9 @@ reactivated d selection policy = with_policy (cond (selection == 0) 1 policy) (w
 abbrev pub reactivate_after : Drive → ℕ → ℕ → ℕ → Drive
 reactivate_after d caller selection policy = unless (reactivate_refusal d caller selection policy) d (reactivated d selection policy)
 
--- how many bits of the selection are set
+-- how many rows the selection puts in Single User Mode: the bits of it that are set
+abbrev pub rows_selected : ℕ → ℕ
+rows_selected selection = count_ones selection
+
 abbrev pub reactivate_answer : Drive → ℕ → ℕ → ℕ → Result ℕ Cause
-reactivate_answer d caller selection policy = answer (reactivate_refusal d caller selection policy) (count_ones selection)
+reactivate_answer d caller selection policy = answer (reactivate_refusal d caller selection policy) (rows_selected selection)

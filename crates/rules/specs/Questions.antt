@@ -38,6 +38,7 @@ abbrev pub denied_at : List Row → ℕ → Option ℕ → Option Cause
 denied_at rows n None = None
 denied_at rows n (Some block) = Some (BlockLocked block (controlling_row rows n block))
 
+-- first the checks above, then 23, which carries the block and its row
 abbrev pub access_refusal : Drive → Access → ℕ → ℕ → ℕ → Option Cause
 access_refusal d access n start count = option_or (refused_by d (access_checks d n start count)) (denied_at d.rows n (first_locked d.rows access n start count))
 

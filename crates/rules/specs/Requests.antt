@@ -10,8 +10,8 @@ use Rattle.rules.specs.declared.row.Kind.TheVariants.{Free, Global, UnitRow, Ran
 use Rattle.rules.specs.declared.row.Sought.TheVariants.{UnitRowOf}
 use Rattle.rules.specs.declared.unit.Holder.{Holder}
 use Rattle.rules.specs.Drive.{Drive, kind_of}
-use Rattle.rules.specs.FreshKeys.{key_of, fresh_key, stands_for, unit_and_ranges}
-use Rattle.rules.specs.Rows.{is_there}
+use Rattle.rules.specs.FreshKeys.{key_of, fresh_key, renewed_by, unit_and_ranges}
+use Rattle.rules.specs.Rows.{has_unit_row}
 use Rattle.rules.specs.Units.{unit}
 
 pub data Request : Type 0 where
@@ -48,12 +48,12 @@ requests_of_deassign d keep (RangeRow u start length serial) = Drop serial ∷ [
 
 -- what an accepted call asks
 abbrev pub requests : Drive → Call → List Request
-requests d (Assign caller n start length standing) = cond (is_there (UnitRowOf n) d.rows) (Put d.next ∷ []) []
+requests d (Assign caller n start length standing) = cond (has_unit_row n d.rows) (Put d.next ∷ []) []
 requests d (Deassign caller r keep) = requests_of_deassign d keep (kind_of d r)
 requests d (SetRange caller r start length) = []
 requests d (SetLocks caller r flags) = []
-requests d (GenKey caller r) = swaps d (stands_for d r)
-requests d (Erase caller r) = swaps d (stands_for d r)
+requests d (GenKey caller r) = swaps d (renewed_by d r)
+requests d (Erase caller r) = swaps d (renewed_by d r)
 requests d (Reactivate caller selection policy) = []
 requests d (Create n blocks) = Put d.next ∷ []
 requests d (Delete n) = Drop (unit n d.units).serial ∷ []

@@ -24,7 +24,7 @@ abbrev pub locked_for : Access → Flags → Bool
 locked_for Read f = f.read_lock_enabled && f.read_locked
 locked_for Write f = f.write_lock_enabled && f.write_locked
 
--- for the one or the other
+-- a row is locked where it is for the one or the other
 abbrev pub locked : Flags → Bool
 locked f = locked_for Read f || locked_for Write f
 
@@ -172,6 +172,10 @@ lowest_row sought rows = first (suits sought) rows
 
 abbrev pub is_there : Sought → List Row → Bool
 is_there sought rows = is_some (lowest_row sought rows)
+
+-- the unit has a unit row
+abbrev pub has_unit_row : ℕ → List Row → Bool
+has_unit_row n rows = is_there (UnitRowOf n) rows
 
 -- each row with its number
 abbrev pub numbered : List Row → List (ℕ × Row)

@@ -15,7 +15,7 @@ admins = 0
 abbrev pub opening_refusal : ℕ → Option Cause
 opening_refusal caller = first_of ((nat_lt 17 caller, OutOfBounds) ∷ [])
 
--- a call comes in a session that its caller has opened
+-- opening the session may be refused (20), before the call's own checks
 abbrev pub in_session : ℕ → Option Cause → Option Cause
 in_session caller refusal = option_or (opening_refusal caller) refusal
 

@@ -13,7 +13,7 @@ use Rattle.rules.specs.declared.row.Sought.{Sought}
 use Rattle.rules.specs.declared.row.Sought.TheVariants.{UnitRowOf, RangeOver}
 use Rattle.rules.specs.declared.unit.LogicalUnit.{LogicalUnit}
 use Rattle.rules.specs.Drive.{Drive}
-use Rattle.rules.specs.Rows.{blank, row, is_free, is_single_user, suits, is_there, key_or}
+use Rattle.rules.specs.Rows.{blank, row, is_free, is_single_user, suits, has_unit_row, key_or}
 use Rattle.rules.specs.Units.{valid, exists, unit}
 
 -- ---- units
@@ -39,7 +39,7 @@ row_fits units rows Free = true
 row_fits units rows Global = true
 row_fits units rows (UnitRow u) = exists u units
 row_fits units rows (RangeRow u start length serial) =
-    (exists u units && is_there (UnitRowOf u) rows) && (nat_le (start + length) (unit u units).blocks && nat_lt 0 serial)
+    (exists u units && has_unit_row u rows) && (nat_le (start + length) (unit u units).blocks && nat_lt 0 serial)
 
 -- no two rows are what is looked for
 abbrev pub AtMostOne : Sought → List Row → Type 0
@@ -56,13 +56,13 @@ pub record SoundRows (units : List LogicalUnit) (rows : List Row) : Type 0 where
   pub ranges : (n block : ℕ) → AtMostOne (RangeOver n block) rows
 
 -- ---- keys
--- the serials of the units, and of the rows with 0 for a row that has no key of its own
 abbrev pub serial_of : LogicalUnit → ℕ
 serial_of u = u.serial
 
 abbrev pub row_key : Row → ℕ
 row_key r = key_or r.kind 0
 
+-- the serials of the units, and those of the rows with 0 for a row that has no key of its own
 abbrev pub serials : List LogicalUnit → List Row → List ℕ
 serials units rows = map serial_of units ++ map row_key rows
 

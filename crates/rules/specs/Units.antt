@@ -13,7 +13,7 @@ valid bounds n = nat_le bounds.first n && nat_le n bounds.last
 abbrev pub no_unit : LogicalUnit
 no_unit = record { number = 0; blocks = 0; serial = 0 }
 
--- there is a unit with this number
+-- there is a unit with this number; every unit's number is valid, so a number that is not valid has none
 abbrev pub exists : ℕ → List LogicalUnit → Bool
 exists n units = rising.has (λ u. u.number) n units
 

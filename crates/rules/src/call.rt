@@ -63,7 +63,7 @@ pub enum Call {
 #[derive(Clone, Copy, PartialEq, Eq)]
 pub enum Accepted {
     Success,
-    /// The row's number, and whether it is a unit row: the host is told both of every row.
+    /// The row's number, and whether it is a unit row.
     Assigned((u32, bool)),
     /// How many rows are put in Single User Mode.
     SingleUserRows(u32),
