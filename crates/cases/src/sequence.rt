@@ -66,7 +66,7 @@ macro_rules! ask {
     (read($unit:expr, $first:expr, $count:expr)) => {
         Ask::Access { access: Access::Read, unit: $unit, first: $first, count: $count }
     };
-    (read_row($row:expr)) => { Ask::ReadRow { row: $row } };
+    (read_row($row:expr)) => { Ask::ReadRow { caller: ADMINS, row: $row } };
     ($call:ident $with:tt) => { Ask::Call { call: call!($call $with) } };
 }
 

@@ -27,7 +27,7 @@ impl fmt::Display for Words {
                 };
                 write!(f, "access {way} {unit} {first} {count}")
             }
-            Ask::ReadRow { row } => write!(f, "read-row {row}"),
+            Ask::ReadRow { caller, row } => write!(f, "{} read-row {row}", Caller(caller)),
         }
     }
 }

@@ -90,7 +90,7 @@ module _ (d : Drive) (h : Sound d) where
       (λ _ _. subst (λ q. key_or q (unit n d.units).serial < d.next) (sym h.rows.global) (unit-given n ex)))
 
 -- ---- a unit's key after renewals
-abbrev Among : Holder → List Holder → Type 0
+abbrev pub Among : {A : Type 0} → A → List A → Type 0
 Among x [] = ⊥
 Among x (y ∷ ys) = (y ≡ x) ⊎ Among x ys
 

@@ -1,10 +1,11 @@
 -- Fresh keys are given in order, each to another holder.
-use Rattle.std.proofs.Common.{◌≡◌, ℕ, zero, suc, ◌+◌, ◌<◌, Bool, true, false, cond, not, eqb, leb, ◌≢◌, List, [], ◌∷◌, map, length, get_or, filter, sym, refl, ap, ◌∙◌, subst, inl, inr, arith}
+use Rattle.std.proofs.Common.{◌≡◌, ℕ, zero, suc, ◌+◌, ◌<◌, Bool, true, false, cond, not, eqb, leb, ◌≢◌, ◌⊎◌, List, [], ◌∷◌, map, length, get_or, filter, sym, refl, ap, ◌∙◌, subst, inl, inr, arith}
 use Rattle.std.proofs.ByRecursion.{All-weaker, All-map}
 use Rattle.std.proofs.lemmas.List.{get_or_past}
-use Rattle.std.proofs.lemmas.Bool.{cases_lt, both_ways, and_parts, leb-true, eq-eqb, ne_eqb, cond-true, cond-false}
+use Rattle.std.proofs.lemmas.Bool.Decides.{nat_tests}
+use Rattle.std.proofs.lemmas.Bool.{cases_eq, cases_lt, both_ways, true≢false, and_parts, leb-true, eq-eqb, ne_eqb, cond-true, cond-false}
 use Rattle.std.specs.List.{AllByRecursion}
-use Rattle.packed.specs.Rising.{rises}
+use Rattle.packed.specs.Rising.{rises, has}
 use Rattle.rules.specs.declared.row.Kind.{Kind}
 use Rattle.rules.specs.declared.row.Kind.TheVariants.{Free, Global, UnitRow, RangeRow}
 use Rattle.rules.specs.declared.row.Row.{Row}
@@ -14,11 +15,14 @@ use Rattle.rules.specs.declared.unit.Holder.{Holder}
 use Rattle.rules.specs.declared.unit.Holder.TheVariants.{TheUnit, TheRow}
 use Rattle.rules.specs.declared.unit.LogicalUnit.{LogicalUnit}
 use Rattle.rules.specs.Drive.{Drive, kind_of}
-use Rattle.rules.specs.FreshKeys.{key_of, HasKey, fresh_key, fresh_keys, units_under_global, holders_of, unit_and_ranges}
-use Rattle.rules.specs.Meanings.{KeyedInOrder, FreshKeysInOrder}
-use Rattle.rules.specs.Rows.{free_row, row, is_range_row, key_or, with_serial, suits, is_there, all_rows}
+use Rattle.rules.specs.FreshKeys.{key_of, HasKey, fresh_key, fresh_keys, units_under_global, holders_of, unit_and_ranges, renewed_by}
+use Rattle.rules.specs.Meanings.{KeyedInOrder, FreshKeysInOrder, FreshKeysRise}
+use Rattle.rules.specs.Rows.{free_row, row, is_range_row, key_or, with_serial, suits, is_there, all_rows, range_row_of, has_unit_row}
 use Rattle.rules.specs.Sound.{Sound}
-use Rattle.rules.proofs.Renewals.{range-parts, keyed-serial, rekeyed_row, valid-kept, valid-of-row, valid-of-unit}
+use Rattle.rules.specs.Units.{exists}
+use Rattle.rules.proofs.Blocks.{Among, under-global}
+use Rattle.rules.proofs.Lookups.{has-from}
+use Rattle.rules.proofs.Renewals.{range-parts, range-row-is, keyed-serial, rekeyed_row, valid-kept, valid-of-row, valid-of-unit}
 use Rattle.rules.proofs.Numbered.{all-more}
 use Rattle.rules.proofs.Searches.{written, unwritten}
 
@@ -129,3 +133,96 @@ fresh-keys-in-order d h = (
   (λ r. in_order d (holders_of d r (kind_of d r)) (valid-of-row d h r (kind_of d r) refl) (row-once d h r (kind_of d r))),
   (λ n ex. in_order d (unit_and_ranges d n) (valid-of-unit d n ex) (unit-once d n)),
 )
+
+-- ---- one stands before the other
+abbrev Before : {A : Type 0} → A → A → List A → Type 0
+Before x y [] = ⊥
+Before x y (z ∷ zs) = ((z ≡ x) × Among y zs) ⊎ Before x y zs
+
+among-map : {A B : Type 0} (f : A → B) (x : A) (xs : List A) → Among x xs → Among (f x) (map f xs)
+among-map f x [] m = m
+among-map f x (y ∷ ys) m = elim m [ inl e ↦ inl (ap f e) | inr n ↦ inr (among-map f x ys n) ]
+
+before-map : {A B : Type 0} (f : A → B) (x y : A) (xs : List A) → Before x y xs → Before (f x) (f y) (map f xs)
+before-map f x y [] b = b
+before-map f x y (z ∷ zs) b = elim b [ inl p ↦ inl (ap f p.0, among-map f y zs p.1) | inr c ↦ inr (before-map f x y zs c) ]
+
+place-among : (x : Holder) (xs : List Holder) → Among x xs → (i : ℕ) × (i < length xs) × (get_or xs i (TheUnit 0) ≡ x)
+place-among x [] m = absurd m
+place-among x (y ∷ ys) m = elim m [
+  | inl e ↦ (0, omega arith, e)
+  | inr n ↦ let p = place-among x ys n in (suc p.0, omega (arith, p.1), p.2)
+]
+
+places : (x y : Holder) (xs : List Holder) → Before x y xs → (i j : ℕ) × (i < j) × (j < length xs) × (get_or xs i (TheUnit 0) ≡ x) × (get_or xs j (TheUnit 0) ≡ y)
+places x y [] b = absurd b
+places x y (z ∷ zs) b = elim b [
+  | inl p ↦ let q = place-among y zs p.1 in (0, suc q.0, omega arith, omega (arith, q.1), p.0, q.2)
+  | inr c ↦ let p = places x y zs c in (suc p.0, suc p.1, omega (arith, p.2), omega (arith, p.3), p.4, p.5)
+]
+
+-- the one that stands before the other gets the lower serial
+lower : (d : Drive) (holders : List Holder) → KeyedInOrder d holders → (x y : Holder) → Before x y holders → key_of (fresh_keys d holders) x < key_of (fresh_keys d holders) y
+lower d holders k x y b =
+    let p = places x y holders b in
+    let kx : key_of (fresh_keys d holders) x ≡ d.next + p.0 = ap (key_of (fresh_keys d holders)) (sym p.4) ∙ k.each p.0 (omega (arith, p.2, p.3)) in
+    let ky : key_of (fresh_keys d holders) y ≡ d.next + p.1 = ap (key_of (fresh_keys d holders)) (sym p.5) ∙ k.each p.1 p.3 in
+    omega (arith, p.2)
+
+units-before : (rows : List Row) (a b low : ℕ) (us : List LogicalUnit) → rises (λ u. u.number) low us ≡ true → exists a us ≡ true → has_unit_row a rows ≡ false → exists b us ≡ true → has_unit_row b rows ≡ false → a < b
+    → Before (TheUnit a) (TheUnit b) (units_under_global rows us)
+unfolding has rises
+units-before rows a b low [] r xa na xb nb l = absurd (true≢false (sym xa))
+units-before rows a b low (u ∷ us) r xa na xb nb l =
+    let up = (and_parts (leb low u.number) _ r).1 in
+    elim (cases_eq u.number a) [
+      | inl e ↦
+          let later : exists b us ≡ true = grind (arith, nat_tests) in
+          let t : not (has_unit_row u.number rows) ≡ true = ap (λ k. not (has_unit_row k rows)) e ∙ ap not na in
+          subst (λ c. Before (TheUnit a) (TheUnit b) (map (λ (v : LogicalUnit). TheUnit v.number) (cond c (u ∷ filter (λ v. not (has_unit_row v.number rows)) us) (filter (λ v. not (has_unit_row v.number rows)) us)))) (sym t)
+          (inl (ap TheUnit e, under-global rows us b later nb))
+      | inr other ↦
+          let xa' : exists a us ≡ true = grind (arith, nat_tests) in
+          let high = has-from (λ (v : LogicalUnit). v.number) a (suc u.number) us up xa' in
+          let xb' : exists b us ≡ true = grind (arith, nat_tests) in
+          go (not (has_unit_row u.number rows)) (units-before rows a b (suc u.number) us up xa' na xb' nb l)
+    ]
+  where
+    go : (c : Bool) → Before (TheUnit a) (TheUnit b) (units_under_global rows us)
+        → Before (TheUnit a) (TheUnit b) (map (λ (v : LogicalUnit). TheUnit v.number) (cond c (u ∷ filter (λ v. not (has_unit_row v.number rows)) us) (filter (λ v. not (has_unit_row v.number rows)) us)))
+    go true m = inr m
+    go false m = m
+
+all-among : (w : Sought) (rows : List Row) (r : ℕ) → r < length rows → suits w (row r rows) ≡ true → Among r (all_rows w rows)
+all-among w [] r l s = absurd (let y : ⊥ = omega arith in y)
+all-among w (x ∷ xs) zero l s = subst (Among 0) (sym (all-more w x xs)) (subst (λ b. Among 0 (cond b (0 ∷ map suc (all_rows w xs)) (map suc (all_rows w xs)))) (sym s) (inl refl))
+all-among w (x ∷ xs) (suc r) l s = subst (Among (suc r)) (sym (all-more w x xs)) (go (suits w x) (among-map suc r (all_rows w xs) (all-among w xs r (omega arith) s)))
+  where
+    go : (b : Bool) → Among (suc r) (map suc (all_rows w xs)) → Among (suc r) (cond b (0 ∷ map suc (all_rows w xs)) (map suc (all_rows w xs)))
+    go true m = inr m
+    go false m = m
+
+rows-before : (w : Sought) (rows : List Row) (q r : ℕ) → q < r → r < length rows → suits w (row q rows) ≡ true → suits w (row r rows) ≡ true → Before q r (all_rows w rows)
+rows-before w [] q r l m s t = absurd (let y : ⊥ = omega arith in y)
+rows-before w (x ∷ xs) q zero l m s t = absurd (let y : ⊥ = omega arith in y)
+rows-before w (x ∷ xs) zero (suc r) l m s t =
+    subst (Before 0 (suc r)) (sym (all-more w x xs)) (subst (λ b. Before 0 (suc r) (cond b (0 ∷ map suc (all_rows w xs)) (map suc (all_rows w xs)))) (sym s) (inl (refl, among-map suc r (all_rows w xs) (all-among w xs r (omega arith) t))))
+rows-before w (x ∷ xs) (suc q) (suc r) l m s t = subst (Before (suc q) (suc r)) (sym (all-more w x xs)) (go (suits w x) (before-map suc q r (all_rows w xs) (rows-before w xs q r (omega arith) (omega arith) s t)))
+  where
+    go : (b : Bool) → Before (suc q) (suc r) (map suc (all_rows w xs)) → Before (suc q) (suc r) (cond b (0 ∷ map suc (all_rows w xs)) (map suc (all_rows w xs)))
+    go true m = inr m
+    go false m = m
+
+pub fresh-keys-rise : FreshKeysRise
+fresh-keys-rise d h = record {
+  units = λ a b xa na xb nb l. lower d (renewed_by d 0) ((fresh-keys-in-order d h).0 0) (TheUnit a) (TheUnit b)
+      (subst (λ k. Before (TheUnit a) (TheUnit b) (holders_of d 0 k)) (sym h.rows.global) (units-before d.rows a b 0 d.units h.units.ordered xa na xb nb l));
+  unit_first = λ n r ex s. lower d (unit_and_ranges d n) (formatting n ex) (TheUnit n) (TheRow r) (inl (refl, among-map TheRow r (all_rows (RangeRowOf n) d.rows) (all-among (RangeRowOf n) d.rows r (there n r s) s)));
+  rows = λ n q r ex s t l. lower d (unit_and_ranges d n) (formatting n ex) (TheRow q) (TheRow r) (inr (before-map TheRow q r (all_rows (RangeRowOf n) d.rows) (rows-before (RangeRowOf n) d.rows q r l (there n r t) s t)));
+}
+  where
+    formatting : (n : ℕ) → exists n d.units ≡ true → KeyedInOrder d (unit_and_ranges d n)
+    formatting n ex = (fresh-keys-in-order d h).1 n ex
+
+    there : (n r : ℕ) → range_row_of n (kind_of d r) ≡ true → r < length d.rows
+    there n r s = row_within d.rows r (range-row-is n (kind_of d r) s)

@@ -1,7 +1,7 @@
 -- Elements that have a number each: what is found after one is put in, taken out or changed.
 use Rattle.std.proofs.Common.{◌≡◌, ℕ, zero, suc, ◌<◌, ◌≤◌, Bool, true, false, cond, ◌&&◌, ◌||◌, eqb, ltb, leb, ◌≢◌, List, [], ◌∷◌, length, get_or, set, Some, None, unwrap_or, sym, refl, ap, ◌∙◌, inl, inr, arith}
 use Rattle.std.proofs.lemmas.Bool.Decides.{nat_tests}
-use Rattle.std.proofs.lemmas.Bool.{both_ways, and_parts, leb-true, eqb-true, eq-eqb, ne_eqb, true≢false}
+use Rattle.std.proofs.lemmas.Bool.{cases_lt, both_ways, and_parts, leb-true, eqb-true, eq-eqb, ne_eqb, true≢false}
 use Rattle.std.specs.Option.{option_map}
 use Rattle.std.specs.List.{AllByRecursion}
 use Rattle.packed.specs.First.{first}
@@ -54,6 +54,12 @@ module _ {A : Type 0} (key : A → ℕ) where
   unfolding has rises
   has-below k low [] l r = refl
   has-below k low (x ∷ xs) l r = let h = has-below k (suc (key x)) xs in grind (arith, nat_tests)
+
+  pub has-from : (k low : ℕ) (xs : List A) → rises key low xs ≡ true → has key k xs ≡ true → low ≤ k
+  has-from k low xs r h = elim (cases_lt k low) [
+    | inl l ↦ absurd (both_ways (has key k xs) (has-below k low xs l r) h)
+    | inr g ↦ g
+  ]
 
   pub has-remove-same : (k low : ℕ) (xs : List A) → rises key low xs ≡ true → has key k (remove key k xs) ≡ false
   unfolding has remove rises

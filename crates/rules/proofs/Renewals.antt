@@ -222,7 +222,7 @@ all-rows w (x ∷ xs) = subst (AllByRecursion (λ r. suits w (row r (x ∷ xs)) 
     go true e a = (e, a)
     go false e a = a
 
-range-row-is : (n : ℕ) (kind : Kind) → range_row_of n kind ≡ true → is_range_row kind ≡ true
+pub range-row-is : (n : ℕ) (kind : Kind) → range_row_of n kind ≡ true → is_range_row kind ≡ true
 range-row-is n Free e = absurd (true≢false (sym e))
 range-row-is n Global e = absurd (true≢false (sym e))
 range-row-is n (UnitRow u) e = absurd (true≢false (sym e))

@@ -5,7 +5,6 @@ use Rattle.vault.specs.Checks.{unless}
 use Rattle.rules.specs.declared.call.Call.{Call}
 use Rattle.rules.specs.declared.call.Call.TheVariants.{Assign, Deassign, SetRange, SetLocks, GenKey, Erase, Reactivate, Create, Delete, Format, Reset}
 use Rattle.rules.specs.declared.cause.Cause.{Cause}
-use Rattle.rules.specs.declared.row.Kind.TheVariants.{Free}
 use Rattle.rules.specs.declared.row.Sought.TheVariants.{UnitRowOf}
 use Rattle.rules.specs.declared.row.Standing.{Standing}
 use Rattle.rules.specs.Calls.{refusal, left, after}

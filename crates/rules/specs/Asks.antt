@@ -1,6 +1,7 @@
 -- A call or a question as a value: the reply to it, and what it leaves.
 use Rattle.std.specs.Prelude.{Result}
 use Rattle.std.specs.Result.{result_map_both}
+use Rattle.vault.specs.Checks.{answer}
 use Rattle.rules.specs.declared.ask.Ask.{Ask}
 use Rattle.rules.specs.declared.ask.Ask.TheVariants as asks
 use Rattle.rules.specs.declared.ask.Told.{Told}
@@ -8,7 +9,8 @@ use Rattle.rules.specs.declared.ask.Told.TheVariants as tells
 use Rattle.rules.specs.declared.cause.Cause.{Cause}
 use Rattle.rules.specs.Calls as calls
 use Rattle.rules.specs.Drive.{Drive}
-use Rattle.rules.specs.Questions.{access_answer, controls_answer, unused_answer, read_row_answer}
+use Rattle.rules.specs.Questions.{access_answer, controls_answer, unused_answer, read_row_refusal, row_fields}
+use Rattle.rules.specs.Sessions.{in_session}
 
 abbrev pub Reply : Type 0
 Reply = Result Told Cause
@@ -23,7 +25,7 @@ reply_to d (asks.Call call) = told tells.Answered (calls.answer d call)
 reply_to d asks.Unused = told tells.Unused (unused_answer d)
 reply_to d (asks.Controls unit block) = told tells.Controls (controls_answer d unit block)
 reply_to d (asks.Access access unit start count) = told (λ _. tells.Granted) (access_answer d access unit start count)
-reply_to d (asks.ReadRow row) = told tells.Row (read_row_answer d row)
+reply_to d (asks.ReadRow caller row) = told tells.Row (answer (in_session caller (read_row_refusal d row)) (row_fields d row))
 
 -- what they leave: a question changes nothing
 abbrev pub left_by : Drive → Ask → Drive
@@ -31,4 +33,4 @@ left_by d (asks.Call call) = calls.after d call
 left_by d asks.Unused = d
 left_by d (asks.Controls unit block) = d
 left_by d (asks.Access access unit start count) = d
-left_by d (asks.ReadRow row) = d
+left_by d (asks.ReadRow caller row) = d

@@ -5,12 +5,12 @@ use Rattle.vault.specs.Checks.{answer, unless}
 use Rattle.vault.specs.Meaning.{put_after, drop_after}
 use Rattle.rules.specs.declared.cause.Cause.{Cause}
 use Rattle.rules.specs.declared.cause.Cause.TheVariants.{NoSuchUnit, UnitExists, BadSize, NoUnusedKey, SerialsRunOut, Locked, HasUnitRow, SixteenUnits}
-use Rattle.rules.specs.declared.row.Sought.TheVariants.{UnitRowOf, RangeRowOf}
+use Rattle.rules.specs.declared.row.Sought.TheVariants.{RangeRowOf}
 use Rattle.rules.specs.declared.unit.LogicalUnit.{LogicalUnit}
 use Rattle.rules.specs.Causes.{Done}
 use Rattle.rules.specs.Drive.{Drive, with_units, with_rows, with_vault, row_locked, spent, run_out, unused_keys, refused_by}
 use Rattle.rules.specs.FreshKeys.{fresh_keys, unit_and_ranges}
-use Rattle.rules.specs.Rows.{has_unit_row, relocked, with_flags, is_there, all_rows, row_under}
+use Rattle.rules.specs.Rows.{has_unit_row, relocked, with_flags, all_rows, row_under}
 use Rattle.rules.specs.Units.{valid, exists, unit, with_unit, without_unit}
 
 -- ---- Create: a unit with this number and so many blocks

@@ -5,7 +5,7 @@ use Rattle.vault.specs.Meaning.{swap_after}
 use Rattle.rules.specs.declared.row.Kind.{Kind}
 use Rattle.rules.specs.declared.row.Kind.TheVariants.{Free, Global, UnitRow, RangeRow}
 use Rattle.rules.specs.declared.row.Row.{Row}
-use Rattle.rules.specs.declared.row.Sought.TheVariants.{UnitRowOf, RangeRowOf}
+use Rattle.rules.specs.declared.row.Sought.TheVariants.{RangeRowOf}
 use Rattle.rules.specs.declared.unit.Holder.{Holder}
 use Rattle.rules.specs.declared.unit.Holder.TheVariants.{TheUnit, TheRow}
 use Rattle.rules.specs.declared.unit.LogicalUnit.{LogicalUnit}

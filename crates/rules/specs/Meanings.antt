@@ -7,12 +7,14 @@ use Rattle.rules.specs.declared.call.Call.{Call}
 use Rattle.rules.specs.declared.call.Call.TheVariants.{Reactivate}
 use Rattle.rules.specs.declared.cause.Cause.TheVariants.{BlockLocked}
 use Rattle.rules.specs.declared.unit.Holder.{Holder}
-use Rattle.rules.specs.declared.unit.Holder.TheVariants.{TheUnit}
-use Rattle.rules.specs.Drive.{Drive}
+use Rattle.rules.specs.declared.unit.Holder.TheVariants.{TheUnit, TheRow}
+use Rattle.rules.specs.Commands.{formatted}
+use Rattle.rules.specs.Drive.{Drive, kind_of}
 use Rattle.rules.specs.FreshKeys.{HasKey, key_of, fresh_keys, renewed_by, unit_and_ranges}
 use Rattle.rules.specs.Laws.{Begins, point, call_at, answered_at}
+use Rattle.rules.specs.Methods.{key_generated}
 use Rattle.rules.specs.Questions.{block_locked, access_refusal}
-use Rattle.rules.specs.Rows.{is_single_user, covers, shares, controlling_row}
+use Rattle.rules.specs.Rows.{is_single_user, covers, shares, range_row_of, has_unit_row, controlling_row}
 use Rattle.rules.specs.Sound.{Sound}
 use Rattle.rules.specs.Units.{exists}
 
@@ -55,3 +57,14 @@ abbrev pub FreshKeysInOrder : Type 0
 FreshKeysInOrder = (d : Drive) → Sound d
     → ((r : ℕ) → KeyedInOrder d (renewed_by d r))
     × ((n : ℕ) → exists n d.units ≡ true → KeyedInOrder d (unit_and_ranges d n))
+
+-- the order is a rising one: by GenKey of row 0 the unit of the lower number gets the lower serial; by Format the unit gets a lower one than its range rows, and of these the lower row does
+pub record LowestFirst (d : Drive) : Type 0 where
+  pub units : (a b : ℕ) → exists a d.units ≡ true → has_unit_row a d.rows ≡ false → exists b d.units ≡ true → has_unit_row b d.rows ≡ false → a < b
+      → key_of (key_generated d 0) (TheUnit a) < key_of (key_generated d 0) (TheUnit b)
+  pub unit_first : (n r : ℕ) → exists n d.units ≡ true → range_row_of n (kind_of d r) ≡ true → key_of (formatted d n) (TheUnit n) < key_of (formatted d n) (TheRow r)
+  pub rows : (n q r : ℕ) → exists n d.units ≡ true → range_row_of n (kind_of d q) ≡ true → range_row_of n (kind_of d r) ≡ true → q < r
+      → key_of (formatted d n) (TheRow q) < key_of (formatted d n) (TheRow r)
+
+abbrev pub FreshKeysRise : Type 0
+FreshKeysRise = (d : Drive) → Sound d → LowestFirst d

@@ -97,5 +97,11 @@ fields_of bounds r = record {
   standing = r.standing;
 }
 
+abbrev pub read_row_refusal : Drive → ℕ → Option Cause
+read_row_refusal d r = refused_by d (read_row_checks r)
+
+abbrev pub row_fields : Drive → ℕ → RowFields
+row_fields d r = fields_of d.numbering (row_of d r)
+
 abbrev pub read_row_answer : Drive → ℕ → Result RowFields Cause
-read_row_answer d r = answer (refused_by d (read_row_checks r)) (fields_of d.numbering (row_of d r))
+read_row_answer d r = answer (read_row_refusal d r) (row_fields d r)

@@ -23,6 +23,7 @@ pub enum Ask {
         count: u64,
     },
     ReadRow {
+        caller: u32,
         row: u32,
     },
 }

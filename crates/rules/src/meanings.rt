@@ -1,5 +1,5 @@
 //! What some of the definitions come to, in other words; as with the laws, each stands on a contract.
-ghost use Rattle.rules.specs.Meanings.{SharingIsACommonBlock, DeniedAtFirstLockedBlock, GrantedWhereNoneLocked, ReactivateCountsRows, FreshKeysInOrder};
+ghost use Rattle.rules.specs.Meanings.{SharingIsACommonBlock, DeniedAtFirstLockedBlock, GrantedWhereNoneLocked, ReactivateCountsRows, FreshKeysInOrder, FreshKeysRise};
 
 /// Two ranges share a block just where some block is one of both.
 pub fn sharing_is_a_common_block()
@@ -24,4 +24,9 @@ pub fn reactivate_counts_rows()
 /// Fresh keys are given in order, each serial to another unit or range row, and no other key changes.
 pub fn fresh_keys_in_order()
     ensures { FreshKeysInOrder }
+{}
+
+/// The order is a rising one: by GenKey of row 0 that of the units' numbers, by Format the unit and then its range rows.
+pub fn fresh_keys_rise()
+    ensures { FreshKeysRise }
 {}

@@ -22,8 +22,8 @@ file_check capacity = answer (first_of ((not (can_be_capacity capacity), Unfit) 
 abbrev pub file_new : ℕ → Meaning
 file_new capacity = record { capacity = cond (can_be_capacity capacity) capacity 0; held = [] }
 
--- ---- the key chip: the words that are not 0 of the first so many registers, which are all of them, or none where they are unfit.
--- `put_into` says what registers hold that are no chip yet, so these definitions take the two and not a chip
+-- ---- the key chip: the words that are not 0 of the registers in use, which are all of them, or none where they are unfit.
+-- These take how many registers are in use and all the words, since `put_into` speaks of registers that are no chip yet
 abbrev pub fit : List ℕ → Bool
 fit words = can_be_capacity (length words) && distinct words
 
