@@ -1,1 +1,4 @@
+pub mod Number
+pub mod Line
+pub mod Spelling
 pub mod Says

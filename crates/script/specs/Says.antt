@@ -1,9 +1,9 @@
 -- Which call the words of a line say.
 use Rattle.std.specs.Prelude.{◌≡◌, ℕ, ◌^◌, List, [], ◌∷◌, IfSome, Ok, vec_items, string_bytes, codes, Option}
 use Rattle.std.specs.List.{AllByRecursion}
-use Rattle.words.specs.Line.{words_of}
-use Rattle.words.specs.Spelling.{numbering_word, vault_word}
-use Rattle.numerals.specs.Number.{read, fitted}
+use Rattle.script.specs.Line.{words_of}
+use Rattle.script.specs.Spelling.{numbering_word, vault_word}
+use Rattle.script.specs.Number.{read, fitted}
 use Rattle.script.specs.declared.calls.Call.{Call}
 use Rattle.script.specs.declared.calls.Call.TheVariants.{Create, Delete, Controls, Unused}
 use Rattle.script.specs.declared.calls.Layout.{Layout}

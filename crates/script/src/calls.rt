@@ -1,5 +1,5 @@
 //! What a script says: the layout of the table, and the calls on it.
-use words::kinds::{NumberingKind, VaultKind};
+use crate::kinds::{NumberingKind, VaultKind};
 
 /// The table that the first call lays out, blank, over an empty vault.
 #[derive(Clone, Copy, Debug, PartialEq, Eq)]

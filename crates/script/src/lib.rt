@@ -3,10 +3,15 @@
 
 pub mod calls;
 pub mod error;
+pub mod fault;
+mod keywords;
+pub mod kinds;
+pub mod numbers;
 mod parser;
+mod words;
 
 pub use calls::{Call, Layout, Line, Script};
 pub use error::ScriptError;
+pub use fault::Fault;
+pub use kinds::{NumberingKind, VaultKind};
 pub use parser::parse;
-pub use words::fault::Fault;
-pub use words::kinds::{NumberingKind, VaultKind};

@@ -4,11 +4,11 @@ ghost use Rattle.script.specs.Says.{Called, Faithful, Fresh, LaysOut, Says, SoFa
 
 use crate::calls::{Call, Layout, Line, Script};
 use crate::error::ScriptError;
+use crate::fault::Fault;
+use crate::keywords::Keyword;
+use crate::kinds::{NumberingKind, VaultKind};
+use crate::words::Words;
 use std::alloc::Global;
-use words::fault::Fault;
-use words::keywords::Keyword;
-use words::kinds::{NumberingKind, VaultKind};
-use words::line::Words;
 
 /// Reads a whole script. The first line that cannot be read decides the error.
 pub fn parse<'a>(heap: Global, text: &'a str) -> Result<Script, ScriptError<'a>>

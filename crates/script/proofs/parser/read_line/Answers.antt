@@ -1,8 +1,8 @@
 -- The words that are kept are put together from the words that were read, so they say the same.
 use Rattle.std.proofs.Common.{string_bytes, rules}
 use Rattle.std.proofs.ByRecursion.{All-push}
-use Rattle.words.specs.Line.{uncommented}
-use Rattle.words.proofs.Rejoined.{same_words}
+use Rattle.script.specs.Line.{uncommented}
+use Rattle.script.proofs.Rejoined.{same_words}
 use Rattle.script.proofs.parser.read_line.Goals as goal
 use Rattle.script.proofs.parser.read_line.Goals.{in-None+in_ok-layout-in-None+in-Some-1, in-None+in_ok-layout-in-None+in-None-1, in-Some-script+in_ok-call-in-Some-script+in_ok-push-in-Some-script}
 

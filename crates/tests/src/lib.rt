@@ -1,0 +1,9 @@
+//! The rules against examples: vaults, tables, and the reading of scripts.
+#![tactic(auto)]
+
+#[cfg(test)]
+mod scripts;
+#[cfg(test)]
+mod tables;
+#[cfg(test)]
+mod vaults;

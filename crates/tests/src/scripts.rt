@@ -1,0 +1,170 @@
+//! Scripts that are read, and scripts that are refused.
+use script::numbers::{Number, NumberFault};
+use script::*;
+use std::alloc::Global;
+use std::test::Fail;
+
+#[test]
+fn numbers_are_decimal_or_hexadecimal(rt: HostRuntime) {
+    let cases = [
+        ("0", Ok(0)),
+        ("007", Ok(7)),
+        ("18446744073709551615", Ok(u64::MAX)),
+        ("18446744073709551616", Err(NumberFault::TooLarge)),
+        ("0xffFFffFFffFFffFF", Ok(u64::MAX)),
+        ("0x10000000000000000", Err(NumberFault::TooLarge)),
+        ("99999999999999999999x", Err(NumberFault::NotANumber)),
+        ("", Err(NumberFault::NotANumber)),
+        ("0x", Err(NumberFault::NotANumber)),
+        ("0X1", Err(NumberFault::NotANumber)),
+        ("+5", Err(NumberFault::NotANumber)),
+        ("0x+5", Err(NumberFault::NotANumber)),
+        ("-1", Err(NumberFault::NotANumber)),
+        ("1_000", Err(NumberFault::NotANumber)),
+        ("1f", Err(NumberFault::NotANumber)),
+        ("0x1g", Err(NumberFault::NotANumber)),
+    ];
+    for (word, expected) in cases {
+        assert_eq!(rt; u64::parse(word), expected, "{}", word);
+    }
+    assert_eq!(rt; u32::parse("4294967295"), Ok(u32::MAX));
+    assert_eq!(rt; u32::parse("0xffffffff"), Ok(u32::MAX));
+    assert_eq!(rt; u32::parse("4294967296"), Err(NumberFault::TooLarge));
+}
+
+#[test]
+fn a_script_is_read(rt: HostRuntime) -> Result<(), Fail> {
+    let text =
+        "# the day's calls\n\n  fresh   scsi file 0x10 # blank\ncreate 1 1000\n\n delete 0x1#gone\ncontrols 4294967295 18446744073709551615\nunused";
+    let script = parse(rt.alloc(), text)
+        .ok()
+        .ok_or("the script was refused")?;
+    assert_eq!(rt; script.layout_words.as_str(), "fresh scsi file 0x10");
+    let layout = Layout {
+        numbering: NumberingKind::Scsi,
+        vault: VaultKind::File,
+        capacity: 16,
+    };
+    assert_eq!(rt; script.layout, layout);
+    let expected = [
+        (
+            4,
+            "create 1 1000",
+            Call::Create {
+                unit: 1,
+                blocks: 1000,
+            },
+        ),
+        (6, "delete 0x1", Call::Delete { unit: 1 }),
+        (
+            7,
+            "controls 4294967295 18446744073709551615",
+            Call::Controls {
+                unit: u32::MAX,
+                block: u64::MAX,
+            },
+        ),
+        (8, "unused", Call::Unused),
+    ];
+    assert_eq!(rt; script.lines.len(), expected.len());
+    for (line, (number, words, call)) in script.lines.iter().zip(expected) {
+        assert_eq!(rt; line.number, number);
+        assert_eq!(rt; line.words.as_str(), words);
+        assert_eq!(rt; line.call, call);
+    }
+    Ok(())
+}
+
+/// What is said of a script that cannot be read.
+fn refusal(heap: Global, text: &str) -> Result<String, Fail> {
+    let error = parse(heap, text).err().ok_or("the script was read")?;
+    Ok(error.to_string(heap)?)
+}
+
+#[test]
+fn the_first_call_lays_the_table_out(rt: HostRuntime) -> Result<(), Fail> {
+    let cases = [
+        ("", "line 1: the layout call is missing"),
+        ("\n# nothing\n", "line 1: the layout call is missing"),
+        ("\nunused", "line 2: the layout call is missing"),
+        ("admins reset", "line 1: the layout call is missing"),
+        ("frob", "line 1: `frob` is no word of a script"),
+        ("load nvme chip 8 sheet", "line 1: `load` is not built yet"),
+        ("fresh", "line 1: NUMBERING is missing"),
+        ("fresh nvme", "line 1: VAULT is missing"),
+        ("fresh nvme chip", "line 1: CAPACITY is missing"),
+        ("fresh nvme#chip 8", "line 1: VAULT is missing"),
+        ("fresh ata chip 8", "line 1: `ata` is no word of a script"),
+        (
+            "fresh nvme\tchip 8",
+            "line 1: `nvme\tchip` is no word of a script",
+        ),
+        (
+            "fresh nvme cloud 8",
+            "line 1: `cloud` is no word of a script",
+        ),
+        (
+            "fresh nvme chip eight",
+            "line 1: a number is expected, and `eight` is none",
+        ),
+        (
+            "fresh nvme chip 4294967296",
+            "line 1: the number `4294967296` does not fit",
+        ),
+        ("fresh nvme chip 8 9", "line 1: `9` is a word too many"),
+        (
+            "fresh nvme chip 8\nfresh nvme chip 8",
+            "line 2: the layout call stands twice",
+        ),
+    ];
+    for (text, expected) in cases {
+        assert_eq!(rt; refusal(rt.alloc(), text)?.as_str(), expected);
+    }
+    Ok(())
+}
+
+#[test]
+fn damaged_calls_are_refused(rt: HostRuntime) -> Result<(), Fail> {
+    let heap = rt.alloc();
+    let cases = [
+        ("frob 1", "line 2: `frob` is no word of a script"),
+        ("create", "line 2: UNIT is missing"),
+        ("create 1", "line 2: BLOCKS is missing"),
+        (
+            "create 4294967296 1",
+            "line 2: the number `4294967296` does not fit",
+        ),
+        (
+            "create 1 18446744073709551616",
+            "line 2: the number `18446744073709551616` does not fit",
+        ),
+        ("create 1 2 3", "line 2: `3` is a word too many"),
+        (
+            "delete -1",
+            "line 2: a number is expected, and `-1` is none",
+        ),
+        ("controls 1", "line 2: BLOCK is missing"),
+        ("unused 1\nfrob", "line 2: `1` is a word too many"),
+        ("unused\n\nfrob", "line 4: `frob` is no word of a script"),
+        ("describe", "line 2: `describe` is not built yet"),
+        ("admins assign 1 0 8", "line 2: `assign` is not built yet"),
+        ("user 4 set-locks 1", "line 2: `set-locks` is not built yet"),
+        ("admins", "line 2: the method is missing"),
+        ("user", "line 2: N is missing"),
+        (
+            "user assign 1 0 8",
+            "line 2: a number is expected, and `assign` is none",
+        ),
+        ("user 4 frob", "line 2: `frob` is no word of a script"),
+        ("admins unused", "line 2: `unused` takes no caller"),
+        (
+            "read-row 1",
+            "line 2: `read-row` needs its caller first, `admins` or `user N`",
+        ),
+    ];
+    for (call, expected) in cases {
+        let text = format!(in heap; "fresh nvme chip 8\n{call}")?;
+        assert_eq!(rt; refusal(heap, text.as_str())?.as_str(), expected);
+    }
+    Ok(())
+}

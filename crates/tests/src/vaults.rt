@@ -1,0 +1,140 @@
+//! Both kinds of vault, asked the same things.
+use std::process::Abort;
+use vault::chip::KeyChip;
+use vault::file::KeyFile;
+use vault::refusal::VaultRefusal;
+use vault::{KeySet, Vault};
+
+const LARGEST: u32 = 4_294_967_294;
+
+#[derive(Clone, Copy)]
+enum Request {
+    Put(u32),
+    Swap(u32, u32),
+    Drop(u32),
+}
+
+// A refusal by its number.
+fn ask<V: Vault>(vault: &mut V, request: Request) -> Result<(), u32> {
+    match request {
+        Request::Put(serial) => vault.put(serial),
+        Request::Swap(old, new) => vault.swap(old, new),
+        Request::Drop(serial) => vault.drop_key(serial),
+    }
+    .map_err(VaultRefusal::number)
+}
+
+// Capacity 2, empty at first. Where several refusals apply, the first in order is answered.
+const ORDER: [(Request, Result<(), u32>); 18] = [
+    (Request::Swap(5, 0), Err(44)),
+    (Request::Drop(0), Err(44)),
+    (Request::Put(0), Err(41)),
+    (Request::Put(5), Ok(())),
+    (Request::Put(5), Err(42)),
+    (Request::Put(LARGEST), Ok(())),
+    (Request::Put(0), Err(41)),
+    (Request::Put(5), Err(42)),
+    (Request::Put(7), Err(43)),
+    (Request::Swap(7, 5), Err(44)),
+    (Request::Swap(5, 0), Err(41)),
+    (Request::Swap(5, 5), Err(42)),
+    (Request::Swap(5, LARGEST), Err(42)),
+    (Request::Swap(5, 9), Ok(())),
+    (Request::Drop(5), Err(44)),
+    (Request::Drop(LARGEST), Ok(())),
+    (Request::Drop(LARGEST), Err(44)),
+    (Request::Put(5), Ok(())),
+];
+
+fn asked_in_order<V: Vault>(rt: &impl Abort, vault: &mut V) {
+    for (request, expected) in ORDER {
+        assert_eq!(rt; ask(vault, request), expected);
+    }
+    assert_eq!(rt; (vault.capacity(), vault.count()), (2, 2));
+    assert_eq!(rt; (vault.holds(5), vault.holds(9)), (true, true));
+    assert_eq!(rt;
+        (vault.holds(0), vault.holds(7), vault.holds(LARGEST)),
+        (false, false, false)
+    );
+}
+
+#[test]
+fn refusals_come_in_order(rt: HostRuntime) {
+    asked_in_order(&rt, &mut KeyFile::new(2));
+    let mut registers = [0, 0];
+    asked_in_order(&rt, &mut KeyChip::new(&mut registers));
+    assert_eq!(rt; registers, [9, 5]);
+}
+
+#[test]
+fn put_fills_the_lowest_zero_register(rt: HostRuntime) {
+    let mut registers = [3, 0, 0, 8];
+    let outcomes = {
+        let mut chip = KeyChip::new(&mut registers);
+        [
+            ask(&mut chip, Request::Put(7)),
+            ask(&mut chip, Request::Drop(3)),
+            ask(&mut chip, Request::Put(4)),
+            ask(&mut chip, Request::Swap(8, 6)),
+        ]
+    };
+    assert_eq!(rt; outcomes, [Ok(()); 4]);
+    assert_eq!(rt; registers, [4, 7, 0, 6]);
+}
+
+// A vault with no place: it holds nothing, and refuses as any full vault does.
+fn unfit<V: Vault>(rt: &impl Abort, vault: &mut V) {
+    assert_eq!(rt;
+        (vault.capacity(), vault.count(), vault.holds(3)),
+        (0, 0, false)
+    );
+    assert_eq!(rt;
+        (ask(vault, Request::Put(0)), ask(vault, Request::Put(3))),
+        (Err(41), Err(43))
+    );
+    assert_eq!(rt;
+        (
+            ask(vault, Request::Swap(3, 4)),
+            ask(vault, Request::Drop(3)),
+        ),
+        (Err(44), Err(44))
+    );
+}
+
+#[test]
+fn unfit_capacities(rt: HostRuntime) {
+    for (capacity, expected) in [
+        (0, Err(29)),
+        (1, Ok(())),
+        (64, Ok(())),
+        (65, Err(29)),
+        (u32::MAX, Err(29)),
+    ] {
+        assert_eq!(rt;
+            KeyFile::check(capacity).map_err(VaultRefusal::number),
+            expected
+        );
+    }
+    assert_eq!(rt; KeyFile::new(64).capacity(), 64);
+    unfit(&rt, &mut KeyFile::new(0));
+    unfit(&rt, &mut KeyFile::new(65));
+}
+
+fn check(registers: &[u32]) -> Result<(), u32> {
+    KeyChip::check(registers).map_err(VaultRefusal::number)
+}
+
+#[test]
+fn unfit_registers_stay_as_they_are(rt: HostRuntime) {
+    let mut twice = [3, 0, 3];
+    assert_eq!(rt; check(&twice), Err(29));
+    unfit(&rt, &mut KeyChip::new(&mut twice));
+    assert_eq!(rt; twice, [3, 0, 3]);
+    let mut many = [0; 65];
+    assert_eq!(rt;
+        (check(&many), check(&many[0..64]), check(&many[0..0]),),
+        (Err(29), Ok(()), Err(29))
+    );
+    unfit(&rt, &mut KeyChip::new(&mut many));
+    assert_eq!(rt; many, [0; 65]);
+}
