@@ -1,6 +1,6 @@
 //! What is wrong with a script.
-use thiserror::Error;
 use crate::fault::Fault;
+use thiserror::Error;
 
 /// The first line of a script that cannot be read, counted from 1.
 #[derive(Clone, Copy, Debug, Error)]
