@@ -13,7 +13,7 @@ use Rattle.rules.specs.declared.unit.LogicalUnit.{LogicalUnit}
 use Rattle.rules.specs.Drive.{Drive, kind_of}
 use Rattle.rules.specs.FreshKeys.{key_of, HasKey, fresh_key, fresh_keys, units_under_global}
 use Rattle.rules.specs.Laws.{block_key}
-use Rattle.rules.specs.Rows.{row, is_range_row, key_or, covers, unit_row_of, range_over, lowest_row, is_there, controlling_row}
+use Rattle.rules.specs.Rows.{row, is_range_row, key_or, covers, unit_row_of, range_over, lowest_row, is_there, controlling_row, has_unit_row}
 use Rattle.rules.specs.Sound.{row_fits, SoundRows, Sound}
 use Rattle.rules.specs.Units.{no_unit, exists, unit}
 use Rattle.rules.proofs.Holders.{key-held}
@@ -129,16 +129,24 @@ renewed-key d (holder ∷ holders) n least ex a m = elim m [
     grown d (TheUnit k) least a = omega arith
     grown d (TheRow r) least a = omega arith
 
-pub under-global : (rows : List Row) (us : List LogicalUnit) (n : ℕ) → exists n us ≡ true → is_there (UnitRowOf n) rows ≡ false → Among (TheUnit n) (units_under_global rows us)
+-- what holds of the units under row 0 with and without the first unit
+pub under-by : (rows : List Row) (u : LogicalUnit) (us : List LogicalUnit) (P : List Holder → Type 0) → (has_unit_row u.number rows ≡ false → P (TheUnit u.number ∷ units_under_global rows us)) → (has_unit_row u.number rows ≡ true → P (units_under_global rows us))
+    → P (units_under_global rows (u ∷ us))
+under-by rows u us P with without = go (has_unit_row u.number rows) refl
+  where
+    others : List LogicalUnit
+    others = filter (λ v. not (has_unit_row v.number rows)) us
+
+    go : (b : Bool) → has_unit_row u.number rows ≡ b → P (map (λ (v : LogicalUnit). TheUnit v.number) (cond (not b) (u ∷ others) others))
+    go true e = without e
+    go false e = with e
+
+pub under-global : (rows : List Row) (us : List LogicalUnit) (n : ℕ) → exists n us ≡ true → has_unit_row n rows ≡ false → Among (TheUnit n) (units_under_global rows us)
 unfolding has
 under-global rows [] n ex f = absurd (true≢false (sym ex))
 under-global rows (u ∷ us) n ex f = elim (cases_eq u.number n) [
-  | inl e ↦
-      let t : not (is_there (UnitRowOf u.number) rows) ≡ true = ap (λ k. not (is_there (UnitRowOf k) rows)) e ∙ ap not f in
-      subst (λ b. Among (TheUnit n) (map (λ (v : LogicalUnit). TheUnit v.number) (cond b (u ∷ filter (λ v. not (is_there (UnitRowOf v.number) rows)) us) (filter (λ v. not (is_there (UnitRowOf v.number) rows)) us)))) (sym t) (inl (ap TheUnit e))
-  | inr d ↦ go (not (is_there (UnitRowOf u.number) rows)) (under-global rows us n (let r : exists n us ≡ true = grind (arith, nat_tests) in r) f)
+  | inl e ↦ under-by rows u us (Among (TheUnit n)) (λ _. inl (ap TheUnit e)) (λ t. absurd (both_ways (has_unit_row n rows) f (ap (λ k. has_unit_row k rows) (sym e) ∙ t)))
+  | inr d ↦
+      let later = under-global rows us n (let r : exists n us ≡ true = grind (arith, nat_tests) in r) f in
+      under-by rows u us (Among (TheUnit n)) (λ _. inr later) (λ _. later)
 ]
-  where
-    go : (b : Bool) → Among (TheUnit n) (units_under_global rows us) → Among (TheUnit n) (map (λ (v : LogicalUnit). TheUnit v.number) (cond b (u ∷ filter (λ v. not (is_there (UnitRowOf v.number) rows)) us) (filter (λ v. not (is_there (UnitRowOf v.number) rows)) us)))
-    go true m = inr m
-    go false m = m

@@ -1,8 +1,8 @@
 -- Each unit and each range row has one key in the vault, of its own, and nothing else has one.
 use Rattle.std.proofs.Common.{◌≡◌, ℕ, zero, suc, ◌+◌, ◌-◌, ◌<◌, true, not, ◌&&◌, eqb, List, [], ◌∷◌, length, get_or, is_some, Option, unwrap_or, sym, refl, ap, ◌∙◌, inl, inr, arith}
 use Rattle.std.proofs.lemmas.Bool.Decides.{nat_tests}
-use Rattle.std.proofs.lemmas.Bool.{cases_lt, and_parts, eqb-true, ltb-true, ne_eqb}
-use Rattle.packed.proofs.Order.{lookup-found, has-lookup}
+use Rattle.std.proofs.lemmas.Bool.{cases_lt, and_parts, eqb-true, ne_eqb}
+use Rattle.packed.proofs.Order.{has-lookup}
 use Rattle.packed.proofs.Search.{found_within, found-passes}
 use Rattle.vault.specs.Serials.{holds, distinct}
 use Rattle.vault.proofs.Words.{holds-collect}
@@ -14,13 +14,12 @@ use Rattle.rules.specs.declared.unit.LogicalUnit.{LogicalUnit}
 use Rattle.rules.specs.Drive.{Drive, kind_of}
 use Rattle.rules.specs.FreshKeys.{key_of, HasKey}
 use Rattle.rules.specs.Laws.{holds_key}
-use Rattle.rules.specs.Rows.{is_free, is_range_row, key_or}
-use Rattle.rules.specs.Sound.{row_fits, serials, Sound}
-use Rattle.rules.specs.Units.{no_unit, exists, unit}
+use Rattle.rules.specs.Rows.{is_range_row, key_or}
+use Rattle.rules.specs.Sound.{serials, Sound}
+use Rattle.rules.specs.Units.{no_unit, exists}
 use Rattle.rules.proofs.Keys.{holds_at, word_held}
 use Rattle.rules.proofs.Lookups.{place_of, lookup_key, lookup-at}
-use Rattle.rules.proofs.Renewals.{range-parts, unit-key}
-use Rattle.rules.proofs.RowsKept.{within, in_table, fits-key}
+use Rattle.rules.proofs.Places.{unit-place, place, key-nonzero}
 use Rattle.rules.proofs.Words.{words_long, unit-word, row_word}
 
 -- a word that is not 0 stands at one place
@@ -42,53 +41,24 @@ module _ (d : Drive) (h : Sound d) where
   abbrev words : List ℕ
   words = serials d.units d.rows
 
-  -- ---- where it stands
-  unit-place : (n : ℕ) → exists n d.units ≡ true → (i : ℕ) × (i < length d.units) × (get_or d.units i no_unit ≡ unit n d.units)
-  unit-place n ex =
-      let p = place_of (λ (u : LogicalUnit). u.number) n d.units ex in (
-        p.0,
-        found_within (λ (u : LogicalUnit). eqb u.number n) d.units p.0 p.1,
-        sym (ap (λ o. unwrap_or o no_unit) (lookup-found (λ (u : LogicalUnit). u.number) n d.units p.0 p.1 no_unit)),
-      )
-
-  row-there : (r : ℕ) → is_range_row (kind_of d r) ≡ true → r < length d.rows
-  row-there r v = within d.units d.rows h.rows r (in_table d.units d.rows h.rows r (ap is_free (range-parts (kind_of d r) v).4))
-
-  place : (holder : Holder) → HasKey d holder → (i : ℕ) × (i < length words) × (get_or words i 0 ≡ key_of d holder)
-  place (TheUnit n) v =
-      let p = unit-place n v in
-      (p.0, omega (arith, p.1, words_long d.units d.rows), unit-word d.units d.rows p.0 p.1 ∙ ap (λ (u : LogicalUnit). u.serial) p.2)
-  place (TheRow r) v =
-      let l = row-there r v in
-      (length d.units + r, omega (arith, l, words_long d.units d.rows), row_word d.units d.rows r l)
-
-  key-nonzero : (holder : Holder) → HasKey d holder → key_of d holder ≡ 0 → ⊥
-  key-nonzero (TheUnit n) v e = omega (arith, unit-key d n h v)
-  key-nonzero (TheRow r) v e =
-      let q = range-parts (kind_of d r) v in
-      let k = ltb-true 0 q.3 (fits-key d.units d.rows q.0 q.1 q.2 q.3 (ap (row_fits d.units d.rows) (sym q.4) ∙ h.rows.each r)) in
-      let z : q.3 ≡ 0 = sym (ap (λ kind. key_or kind 0) q.4) ∙ e in
-      omega arith
-
   -- ---- the vault holds it
   pub key-held : (holder : Holder) → HasKey d holder → holds_key d (key_of d holder) ≡ true
-  key-held holder v = let p = place holder v in word_held d.next d.vault words h.keys p.0 (key_of d holder) p.1 p.2 (key-nonzero holder v)
+  key-held holder v = let p = place d h holder v in word_held d.next d.vault words h.keys p.0 (key_of d holder) p.1 p.2 (key-nonzero d h holder v)
 
   -- ---- it is no other's
   pub key-different : (one other : Holder) → HasKey d one → HasKey d other → key_of d one ≡ key_of d other → one ≡ other
-  unfolding place
   key-different one other v w e =
-      let p = place one v in
-      let q = place other w in
-      apart one other v w (same-place words p.0 q.0 h.keys.apart p.1 q.1 (p.2 ∙ e ∙ sym q.2) (λ z. key-nonzero one v (sym p.2 ∙ z)))
+      let p = place d h one v in
+      let q = place d h other w in
+      apart one other v w (same-place words p.0 q.0 h.keys.apart p.1 q.1 (p.2 ∙ e ∙ sym q.2) (λ z. key-nonzero d h one v (sym p.2 ∙ z)))
     where
-      number-at : (n : ℕ) (v : exists n d.units ≡ true) → n ≡ (get_or d.units (unit-place n v).0 no_unit).number
-      number-at n v = sym (ap (λ (u : LogicalUnit). u.number) (unit-place n v).2 ∙ lookup_key (λ (u : LogicalUnit). u.number) n d.units no_unit v)
+      number-at : (n : ℕ) (v : exists n d.units ≡ true) → n ≡ (get_or d.units (unit-place d n v).0 no_unit).number
+      number-at n v = sym (ap (λ (u : LogicalUnit). u.number) (unit-place d n v).3 ∙ lookup_key (λ (u : LogicalUnit). u.number) n d.units no_unit v)
 
-      apart : (one other : Holder) (v : HasKey d one) (w : HasKey d other) → (place one v).0 ≡ (place other w).0 → one ≡ other
+      apart : (one other : Holder) (v : HasKey d one) (w : HasKey d other) → (place d h one v).0 ≡ (place d h other w).0 → one ≡ other
       apart (TheUnit n) (TheUnit m) v w e = ap TheUnit (number-at n v ∙ ap (λ i. (get_or d.units i no_unit).number) e ∙ sym (number-at m w))
-      apart (TheUnit n) (TheRow r) v w e = absurd (let l = (unit-place n v).1 in let b : ⊥ = omega arith in b)
-      apart (TheRow r) (TheUnit n) v w e = absurd (let l = (unit-place n w).1 in let b : ⊥ = omega arith in b)
+      apart (TheUnit n) (TheRow r) v w e = absurd (let l = (unit-place d n v).2 in let b : ⊥ = omega arith in b)
+      apart (TheRow r) (TheUnit n) v w e = absurd (let l = (unit-place d n w).2 in let b : ⊥ = omega arith in b)
       apart (TheRow q) (TheRow r) v w e = ap TheRow (let s : q ≡ r = omega arith in s)
 
   -- ---- nothing else is held

@@ -1,43 +1,37 @@
 -- Fresh keys are given in order, each to another holder.
-use Rattle.std.proofs.Common.{◌≡◌, ℕ, zero, suc, ◌+◌, ◌<◌, Bool, true, false, cond, not, eqb, leb, ◌≢◌, ◌⊎◌, List, [], ◌∷◌, map, length, get_or, filter, sym, refl, ap, ◌∙◌, subst, inl, inr, arith}
+use Rattle.std.proofs.Common.{◌≡◌, ℕ, zero, suc, ◌+◌, ◌<◌, true, false, eqb, leb, ◌≢◌, ◌⊎◌, List, [], ◌∷◌, map, length, get_or, sym, refl, ap, ◌∙◌, subst, inl, inr, arith}
 use Rattle.std.proofs.ByRecursion.{All-weaker, All-map}
-use Rattle.std.proofs.lemmas.List.{get_or_past}
 use Rattle.std.proofs.lemmas.Bool.Decides.{nat_tests}
-use Rattle.std.proofs.lemmas.Bool.{cases_eq, cases_lt, both_ways, true≢false, and_parts, leb-true, eq-eqb, ne_eqb, cond-true, cond-false}
+use Rattle.std.proofs.lemmas.Bool.{cases_eq, both_ways, true≢false, and_parts, leb-true, eq-eqb, ne_eqb, cond-true, cond-false}
 use Rattle.std.specs.List.{AllByRecursion}
 use Rattle.packed.specs.Rising.{rises, has}
 use Rattle.rules.specs.declared.row.Kind.{Kind}
 use Rattle.rules.specs.declared.row.Kind.TheVariants.{Free, Global, UnitRow, RangeRow}
 use Rattle.rules.specs.declared.row.Row.{Row}
 use Rattle.rules.specs.declared.row.Sought.{Sought}
-use Rattle.rules.specs.declared.row.Sought.TheVariants.{UnitRowOf, RangeRowOf}
+use Rattle.rules.specs.declared.row.Sought.TheVariants.{RangeRowOf}
 use Rattle.rules.specs.declared.unit.Holder.{Holder}
 use Rattle.rules.specs.declared.unit.Holder.TheVariants.{TheUnit, TheRow}
 use Rattle.rules.specs.declared.unit.LogicalUnit.{LogicalUnit}
 use Rattle.rules.specs.Drive.{Drive, kind_of}
 use Rattle.rules.specs.FreshKeys.{key_of, HasKey, fresh_key, fresh_keys, units_under_global, holders_of, unit_and_ranges, renewed_by}
 use Rattle.rules.specs.Meanings.{KeyedInOrder, FreshKeysInOrder, FreshKeysRise}
-use Rattle.rules.specs.Rows.{free_row, row, is_range_row, key_or, with_serial, suits, is_there, all_rows, range_row_of, has_unit_row}
+use Rattle.rules.specs.Rows.{row, key_or, with_serial, suits, all_rows, range_row_of, has_unit_row}
 use Rattle.rules.specs.Sound.{Sound}
 use Rattle.rules.specs.Units.{exists}
-use Rattle.rules.proofs.Blocks.{Among, under-global}
+use Rattle.rules.proofs.Blocks.{Among, under-by, under-global}
 use Rattle.rules.proofs.Lookups.{has-from}
-use Rattle.rules.proofs.Renewals.{range-parts, range-row-is, keyed-serial, rekeyed_row, valid-kept, valid-of-row, valid-of-unit}
-use Rattle.rules.proofs.Numbered.{all-more}
+use Rattle.rules.proofs.Places.{range-parts, range-within}
+use Rattle.rules.proofs.Renewals.{range-row-is, keyed-serial, rekeyed_row, valid-kept, valid-of-row, valid-of-unit}
+use Rattle.rules.proofs.Numbered.{all-by}
 use Rattle.rules.proofs.Searches.{written, unwritten}
 
 -- ---- one fresh key
-row_within : (rows : List Row) (r : ℕ) → is_range_row (row r rows).kind ≡ true → r < length rows
-row_within rows r is = elim (cases_lt r (length rows)) [
-  | inl l ↦ l
-  | inr g ↦ absurd (both_ways (is_range_row (row r rows).kind) (ap (λ (x : Row). is_range_row x.kind) (get_or_past rows r free_row g)) is)
-]
-
 own_key : (d : Drive) (holder : Holder) → HasKey d holder → key_of (fresh_key d holder) holder ≡ d.next
 own_key d (TheUnit n) v = keyed-serial n d.next d.units n v ∙ cond-true (eqb n n) _ _ (eq-eqb n n refl)
 own_key d (TheRow r) v =
     let q = range-parts (row r d.rows).kind v in
-    ap (λ (x : Row). key_or x.kind 0) (written d.rows r (rekeyed_row d r) (row_within d.rows r v))
+    ap (λ (x : Row). key_or x.kind 0) (written d.rows r (rekeyed_row d r) (range-within d.rows r v))
     ∙ ap (λ k. key_or (with_serial d.next k) 0) q.4
 
 other_key : (d : Drive) (by other : Holder) → HasKey d other → by ≢ other → key_of (fresh_key d by) other ≡ key_of d other
@@ -88,33 +82,24 @@ above rows m low [] l r = tt
 above rows m low (u ∷ us) l r =
     let p = and_parts (leb low u.number) _ r in
     let le = leb-true low u.number p.0 in
-    go (not (is_there (UnitRowOf u.number) rows)) (λ e. let q : u.number ≡ m = cc in omega arith) (above rows m (suc u.number) us (omega arith) p.1)
-  where
-    go : (b : Bool) → TheUnit u.number ≢ TheUnit m → AllByRecursion (λ y. y ≢ TheUnit m) (units_under_global rows us)
-        → AllByRecursion (λ y. y ≢ TheUnit m) (map (λ (v : LogicalUnit). TheUnit v.number) (cond b (u ∷ filter (λ v. not (is_there (UnitRowOf v.number) rows)) us) (filter (λ v. not (is_there (UnitRowOf v.number) rows)) us)))
-    go true ne a = (ne, a)
-    go false ne a = a
+    let ne : TheUnit u.number ≢ TheUnit m = (λ e. let q : u.number ≡ m = cc in omega arith) in
+    let later = above rows m (suc u.number) us (omega arith) p.1 in
+    under-by rows u us (AllByRecursion (λ y. y ≢ TheUnit m)) (λ _. (ne, later)) (λ _. later)
 
 units-once : (rows : List Row) (low : ℕ) (us : List LogicalUnit) → rises (λ u. u.number) low us ≡ true → NoRepeat (units_under_global rows us)
 unfolding rises
 units-once rows low [] r = tt
 units-once rows low (u ∷ us) r =
     let p = and_parts (leb low u.number) _ r in
-    go (not (is_there (UnitRowOf u.number) rows)) (above rows u.number (suc u.number) us (omega arith) p.1) (units-once rows (suc u.number) us p.1)
-  where
-    go : (b : Bool) → AllByRecursion (λ y. y ≢ TheUnit u.number) (units_under_global rows us) → NoRepeat (units_under_global rows us)
-        → NoRepeat (map (λ (v : LogicalUnit). TheUnit v.number) (cond b (u ∷ filter (λ v. not (is_there (UnitRowOf v.number) rows)) us) (filter (λ v. not (is_there (UnitRowOf v.number) rows)) us)))
-    go true a n = (a, n)
-    go false a n = n
+    let later = units-once rows (suc u.number) us p.1 in
+    under-by rows u us NoRepeat (λ _. (above rows u.number (suc u.number) us (omega arith) p.1, later)) (λ _. later)
 
 rows-once : (w : Sought) (rows : List Row) → NoRepeat (all_rows w rows)
 unfolding all_rows
 rows-once w [] = tt
-rows-once w (x ∷ xs) = subst NoRepeat (sym (all-more w x xs)) (go (suits w x) (no-repeat-map suc (λ a b e. omega arith) (all_rows w xs) (rows-once w xs)))
-  where
-    go : (b : Bool) → NoRepeat (map suc (all_rows w xs)) → NoRepeat (cond b (0 ∷ map suc (all_rows w xs)) (map suc (all_rows w xs)))
-    go true n = (All-map (λ y. y ≢ 0) suc (all_rows w xs) (all_of (λ y. suc y ≢ 0) (λ y e. omega arith) (all_rows w xs)), n)
-    go false n = n
+rows-once w (x ∷ xs) =
+    let later = no-repeat-map suc (λ a b e. omega arith) (all_rows w xs) (rows-once w xs) in
+    all-by w x xs NoRepeat (λ _. (All-map (λ y. y ≢ 0) suc (all_rows w xs) (all_of (λ y. suc y ≢ 0) (λ y e. omega arith) (all_rows w xs)), later)) (λ _. later)
 
 row-once : (d : Drive) → Sound d → (r : ℕ) (kind : Kind) → NoRepeat (holders_of d r kind)
 row-once d h r Free = tt
@@ -178,40 +163,31 @@ units-before rows a b low (u ∷ us) r xa na xb nb l =
     elim (cases_eq u.number a) [
       | inl e ↦
           let later : exists b us ≡ true = grind (arith, nat_tests) in
-          let t : not (has_unit_row u.number rows) ≡ true = ap (λ k. not (has_unit_row k rows)) e ∙ ap not na in
-          subst (λ c. Before (TheUnit a) (TheUnit b) (map (λ (v : LogicalUnit). TheUnit v.number) (cond c (u ∷ filter (λ v. not (has_unit_row v.number rows)) us) (filter (λ v. not (has_unit_row v.number rows)) us)))) (sym t)
-          (inl (ap TheUnit e, under-global rows us b later nb))
+          under-by rows u us (Before (TheUnit a) (TheUnit b)) (λ _. inl (ap TheUnit e, under-global rows us b later nb))
+          (λ t. absurd (both_ways (has_unit_row a rows) na (ap (λ k. has_unit_row k rows) (sym e) ∙ t)))
       | inr other ↦
           let xa' : exists a us ≡ true = grind (arith, nat_tests) in
           let high = has-from (λ (v : LogicalUnit). v.number) a (suc u.number) us up xa' in
           let xb' : exists b us ≡ true = grind (arith, nat_tests) in
-          go (not (has_unit_row u.number rows)) (units-before rows a b (suc u.number) us up xa' na xb' nb l)
+          let later = units-before rows a b (suc u.number) us up xa' na xb' nb l in
+          under-by rows u us (Before (TheUnit a) (TheUnit b)) (λ _. inr later) (λ _. later)
     ]
-  where
-    go : (c : Bool) → Before (TheUnit a) (TheUnit b) (units_under_global rows us)
-        → Before (TheUnit a) (TheUnit b) (map (λ (v : LogicalUnit). TheUnit v.number) (cond c (u ∷ filter (λ v. not (has_unit_row v.number rows)) us) (filter (λ v. not (has_unit_row v.number rows)) us)))
-    go true m = inr m
-    go false m = m
 
 all-among : (w : Sought) (rows : List Row) (r : ℕ) → r < length rows → suits w (row r rows) ≡ true → Among r (all_rows w rows)
 all-among w [] r l s = absurd (let y : ⊥ = omega arith in y)
-all-among w (x ∷ xs) zero l s = subst (Among 0) (sym (all-more w x xs)) (subst (λ b. Among 0 (cond b (0 ∷ map suc (all_rows w xs)) (map suc (all_rows w xs)))) (sym s) (inl refl))
-all-among w (x ∷ xs) (suc r) l s = subst (Among (suc r)) (sym (all-more w x xs)) (go (suits w x) (among-map suc r (all_rows w xs) (all-among w xs r (omega arith) s)))
-  where
-    go : (b : Bool) → Among (suc r) (map suc (all_rows w xs)) → Among (suc r) (cond b (0 ∷ map suc (all_rows w xs)) (map suc (all_rows w xs)))
-    go true m = inr m
-    go false m = m
+all-among w (x ∷ xs) zero l s = all-by w x xs (Among 0) (λ _. inl refl) (λ f. absurd (both_ways (suits w x) f s))
+all-among w (x ∷ xs) (suc r) l s =
+    let later = among-map suc r (all_rows w xs) (all-among w xs r (omega arith) s) in
+    all-by w x xs (Among (suc r)) (λ _. inr later) (λ _. later)
 
 rows-before : (w : Sought) (rows : List Row) (q r : ℕ) → q < r → r < length rows → suits w (row q rows) ≡ true → suits w (row r rows) ≡ true → Before q r (all_rows w rows)
 rows-before w [] q r l m s t = absurd (let y : ⊥ = omega arith in y)
 rows-before w (x ∷ xs) q zero l m s t = absurd (let y : ⊥ = omega arith in y)
 rows-before w (x ∷ xs) zero (suc r) l m s t =
-    subst (Before 0 (suc r)) (sym (all-more w x xs)) (subst (λ b. Before 0 (suc r) (cond b (0 ∷ map suc (all_rows w xs)) (map suc (all_rows w xs)))) (sym s) (inl (refl, among-map suc r (all_rows w xs) (all-among w xs r (omega arith) t))))
-rows-before w (x ∷ xs) (suc q) (suc r) l m s t = subst (Before (suc q) (suc r)) (sym (all-more w x xs)) (go (suits w x) (before-map suc q r (all_rows w xs) (rows-before w xs q r (omega arith) (omega arith) s t)))
-  where
-    go : (b : Bool) → Before (suc q) (suc r) (map suc (all_rows w xs)) → Before (suc q) (suc r) (cond b (0 ∷ map suc (all_rows w xs)) (map suc (all_rows w xs)))
-    go true m = inr m
-    go false m = m
+    all-by w x xs (Before 0 (suc r)) (λ _. inl (refl, among-map suc r (all_rows w xs) (all-among w xs r (omega arith) t))) (λ f. absurd (both_ways (suits w x) f s))
+rows-before w (x ∷ xs) (suc q) (suc r) l m s t =
+    let later = before-map suc q r (all_rows w xs) (rows-before w xs q r (omega arith) (omega arith) s t) in
+    all-by w x xs (Before (suc q) (suc r)) (λ _. inr later) (λ _. later)
 
 pub fresh-keys-rise : FreshKeysRise
 fresh-keys-rise d h = record {
@@ -225,4 +201,4 @@ fresh-keys-rise d h = record {
     formatting n ex = (fresh-keys-in-order d h).1 n ex
 
     there : (n r : ℕ) → range_row_of n (kind_of d r) ≡ true → r < length d.rows
-    there n r s = row_within d.rows r (range-row-is n (kind_of d r) s)
+    there n r s = range-within d.rows r (range-row-is n (kind_of d r) s)

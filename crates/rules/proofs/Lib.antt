@@ -5,6 +5,7 @@ pub mod Lookups
 pub mod Keys
 pub mod RowsKept
 pub mod Words
+pub mod Places
 pub mod Renewals
 pub mod Holders
 pub mod Alike

@@ -37,7 +37,8 @@ use Rattle.rules.proofs.Accepted.{opened, passed, passed-in}
 use Rattle.rules.proofs.Alike.{alike-fresh, Alike, alike-renewed, alike-control}
 use Rattle.rules.proofs.Blocks.{key-is, control-is, control-other, control-global, key-new, key-given, renewed-key, under-global}
 use Rattle.rules.proofs.Lookups.{lookup-insert, lookup-remove, has-remove-other, has-remove-same}
-use Rattle.rules.proofs.Renewals.{range-parts, rekeyed_row}
+use Rattle.rules.proofs.Places.{range-parts}
+use Rattle.rules.proofs.Renewals.{rekeyed_row}
 use Rattle.rules.proofs.RowsKept.{within, in_table, not-row-0, none-at, no_other, any_none, unit-row-there}
 use Rattle.rules.proofs.Searches.{found-is, nowhere, written, unwritten, set-alike, lowest-as, control-as, first-same}
 use Rattle.rules.proofs.Selections.{map-alike}

@@ -1,5 +1,5 @@
 -- Rows with their numbers.
-use Rattle.std.proofs.Common.{◌≡◌, ℕ, suc, ◌+◌, ◌<◌, Bool, true, false, cond, List, [], ◌∷◌, map, length, filter, sym, refl, ap, ◌∙◌, inl, inr, add-one, arith}
+use Rattle.std.proofs.Common.{◌≡◌, ℕ, suc, ◌+◌, ◌<◌, Bool, true, false, cond, List, [], ◌∷◌, map, length, filter, sym, refl, ap, ◌∙◌, subst, inl, inr, add-one, arith}
 use Rattle.std.proofs.lemmas.Bool.{cases_lt}
 use Rattle.std.proofs.lemmas.List.{length-map, get_or-map, get_or_past}
 use Rattle.std.proofs.lemmas.List.FromFn.{length-enumerate_from, get_or-enumerate_from}
@@ -56,7 +56,7 @@ filter-higher w (e ∷ es) = go (suits w e.1) (filter-higher w es)
     go true h = ap (λ ns. suc e.0 ∷ ns) h
     go false h = h
 
-pub all-more : (w : Sought) (r : Row) (rs : List Row) → all_rows w (r ∷ rs) ≡ cond (suits w r) (0 ∷ map suc (all_rows w rs)) (map suc (all_rows w rs))
+all-more : (w : Sought) (r : Row) (rs : List Row) → all_rows w (r ∷ rs) ≡ cond (suits w r) (0 ∷ map suc (all_rows w rs)) (map suc (all_rows w rs))
 unfolding all_rows
 all-more w r rs = go (suits w r) (ap (λ es. map (λ entry. entry.0) (filter (λ entry. suits w entry.1) es)) (higher-by 0 rs) ∙ filter-higher w (numbered rs))
   where
@@ -66,3 +66,11 @@ all-more w r rs = go (suits w r) (ap (λ es. map (λ entry. entry.0) (filter (λ
     go : (b : Bool) → numbers tail ≡ map suc (all_rows w rs) → numbers (cond b ((0, r) ∷ tail) tail) ≡ cond b (0 ∷ map suc (all_rows w rs)) (map suc (all_rows w rs))
     go true h = ap (λ ns. 0 ∷ ns) h
     go false h = h
+
+-- what holds of the numbers with and without the first row
+pub all-by : (w : Sought) (r : Row) (rs : List Row) (P : List ℕ → Type 0) → (suits w r ≡ true → P (0 ∷ map suc (all_rows w rs))) → (suits w r ≡ false → P (map suc (all_rows w rs))) → P (all_rows w (r ∷ rs))
+all-by w r rs P with without = subst P (sym (all-more w r rs)) (go (suits w r) refl)
+  where
+    go : (b : Bool) → suits w r ≡ b → P (cond b (0 ∷ map suc (all_rows w rs)) (map suc (all_rows w rs)))
+    go true e = with e
+    go false e = without e

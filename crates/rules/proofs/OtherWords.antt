@@ -1,6 +1,5 @@
 -- What some of the definitions come to, in other words.
-use Rattle.std.proofs.Common.{◌≡◌, ℕ, zero, suc, ◌+◌, ◌/◌, ◌%◌, ◌^◌, ◌<◌, ◌≤◌, max, Bool, true, false, cond, not, ◌||◌, eqb, ltb, leb, List, [], ◌∷◌, map, length, Some, None, Ok, filter, Option, sym, refl, ap, ◌∙◌, subst, inl, inr, div-one, add-one, arith, shr_lt}
-use native.Mathlib.Nat.{div-div-eq-div-mul, pow-succ'}
+use Rattle.std.proofs.Common.{◌≡◌, ℕ, zero, suc, ◌+◌, ◌/◌, ◌%◌, ◌^◌, ◌<◌, ◌≤◌, max, Bool, true, false, cond, not, ◌||◌, eqb, ltb, leb, List, [], ◌∷◌, map, length, Some, None, Ok, filter, Option, sym, refl, ap, ◌∙◌, subst, inl, inr, add-one, arith, shr_lt}
 use lib.Count.{ones, ones_in, ones_step}
 use Rattle.std.proofs.lemmas.Bool.Decides.{nat_tests}
 use Rattle.std.proofs.lemmas.Bool.{cases_eq, leb-false, eqb-true, eqb-false, or_parts}
@@ -26,6 +25,7 @@ use Rattle.rules.specs.Sound.{Sound}
 use Rattle.rules.specs.Units.{exists, unit}
 use Rattle.rules.proofs.Accepted.{neither, passed-in}
 use Rattle.rules.proofs.Numbered.{each_row_by, each-more}
+use Rattle.rules.proofs.Selections.{selected-lowest, selected-half}
 use Rattle.rules.proofs.Whole.{stays-sound, next-point, answered}
 
 pub sharing-is-a-common-block : SharingIsACommonBlock
@@ -99,9 +99,6 @@ each-as f g e rows = go (numbered rows)
     go [] = refl
     go (x ∷ xs) = ap (λ r. r ∷ map (λ entry. f entry.0 entry.1) xs) (e x.0 x.1) ∙ ap (λ rs. g x.0 x.1 ∷ rs) (go xs)
 
-selected-half : (selection r : ℕ) → selected selection (suc r) ≡ selected (selection / 2) r
-selected-half selection r = ap (λ m. eqb (m % 2) 1) (ap (λ m. selection / m) (pow-succ' 2 r) ∙ sym (div-div-eq-div-mul selection 2 (2 ^ r)))
-
 abbrev singles : List Row → List Row
 singles rows = filter (λ r. is_single_user r.standing) rows
 
@@ -115,15 +112,12 @@ count-rows (r ∷ rs) selection l =
     ∙ go (selected selection 0) refl
     (ap (λ xs. length (singles xs)) same ∙ count-rows rs (selection / 2) less) (ones_step selection)
   where
-    bit : selected selection 0 ≡ eqb (selection % 2) 1
-    bit = ap (λ m. eqb (m % 2) 1) (div-one selection)
-
     go : (b : Bool) → selected selection 0 ≡ b
         → length (singles (each_row_by (λ n. reactivated_row selection (suc n)) rs)) ≡ ones (selection / 2)
         → ones selection ≡ selection % 2 + ones (selection / 2)
         → length (singles (record { kind = r.kind; standing = cond b SingleUser Shared; flags = blank } ∷ each_row_by (λ n. reactivated_row selection (suc n)) rs)) ≡ ones selection
-    go true e ih step = let o = eqb-true (selection % 2) 1 (sym bit ∙ e) in omega arith
-    go false e ih step = let o = eqb-false (selection % 2) 1 (sym bit ∙ e) in omega arith
+    go true e ih step = let o = eqb-true (selection % 2) 1 (sym (selected-lowest selection) ∙ e) in omega arith
+    go false e ih step = let o = eqb-false (selection % 2) 1 (sym (selected-lowest selection) ∙ e) in omega arith
 
 pub reactivate-counts-rows : ReactivateCountsRows
 reactivate-counts-rows d b calls k caller selection policy count lt is told =

@@ -1,14 +1,13 @@
 -- Fresh keys: a drive stays in order, and the vault refuses nothing.
-use Rattle.std.proofs.Common.{◌≡◌, ℕ, suc, ◌+◌, ◌<◌, ◌≤◌, Bool, true, false, cond, not, ◌&&◌, ◌||◌, eqb, ltb, List, [], ◌∷◌, map, length, get_or, set, Some, None, filter, Option, unwrap_or, sym, refl, ap, ◌∙◌, subst, arith}
+use Rattle.std.proofs.Common.{◌≡◌, ℕ, suc, ◌+◌, ◌<◌, ◌≤◌, Bool, true, false, cond, not, ◌&&◌, ◌||◌, eqb, List, [], ◌∷◌, length, get_or, set, Some, None, filter, Option, unwrap_or, sym, refl, ap, ◌∙◌, arith}
 use Rattle.std.proofs.ByRecursion.{All-weaker, All-map, all_kept_by}
 use Rattle.std.proofs.lemmas.List.{length-set}
 use Rattle.std.proofs.lemmas.Bool.Decides.{nat_tests}
-use Rattle.std.proofs.lemmas.Bool.{and_parts, and_from, ltb-true, lt-ltb, true≢false}
+use Rattle.std.proofs.lemmas.Bool.{and_from, lt-ltb, true≢false}
 use Rattle.std.specs.Option.{option_map}
 use Rattle.std.specs.List.{AllByRecursion}
 use Rattle.packed.specs.Rising.{has, lookup}
 use Rattle.packed.proofs.Order.{lookup-found}
-use Rattle.packed.proofs.Search.{found_within}
 use Rattle.vault.specs.Kinds.{can_be_capacity}
 use Rattle.vault.specs.Meaning.{swap_refusal, swap_after}
 use Rattle.rules.specs.declared.row.Kind.{Kind}
@@ -24,20 +23,14 @@ use Rattle.rules.specs.FreshKeys.{key_of, HasKey, fresh_key, fresh_keys, units_u
 use Rattle.rules.specs.Requests.{NoneRefused, swaps}
 use Rattle.rules.specs.Rows.{row, is_free, is_range_row, key_or, with_serial, is_single_user, with_kind, unit_row_of, range_row_of, range_over, suits, is_there, all_rows}
 use Rattle.rules.specs.Sound.{unit_fits, SoundUnits, is_global, row_fits, serials, Sound}
-use Rattle.rules.specs.Units.{valid, no_unit, exists, unit, with_key}
+use Rattle.rules.specs.Units.{no_unit, exists, unit, with_key}
 use Rattle.rules.proofs.Keys.{keys-as, swap-capacity, swap-done, swap-keys}
-use Rattle.rules.proofs.Lookups.{place_of, change-found, lookup-change, has-change, rises-change, length-change, all-change, all_lookup}
-use Rattle.rules.proofs.RowsKept.{any_same, within, in_table, no_other, fits-exists, fits_under, fits-inside, fits-key, rows-range, rows-units}
-use Rattle.rules.proofs.Numbered.{all-more}
+use Rattle.rules.proofs.Lookups.{place_of, change-found, lookup-change, has-change, rises-change, length-change, all-change}
+use Rattle.rules.proofs.Places.{range-parts, unit-place, place, key-nonzero}
+use Rattle.rules.proofs.RowsKept.{any_same, within, in_table, no_other, fits-exists, fits_under, fits-inside, rows-range, rows-units}
+use Rattle.rules.proofs.Numbered.{all-by}
 use Rattle.rules.proofs.Searches.{set-alike}
-use Rattle.rules.proofs.Words.{words_long, unit-word, unit-written, row_word, row_written}
-
--- a kind that is a range row, by its parts
-pub range-parts : (kind : Kind) → is_range_row kind ≡ true → (n start len serial : ℕ) × (kind ≡ RangeRow n start len serial)
-range-parts Free h = absurd (true≢false (sym h))
-range-parts Global h = absurd (true≢false (sym h))
-range-parts (UnitRow u) h = absurd (true≢false (sym h))
-range-parts (RangeRow u s l k) h = (u, s, l, k, refl)
+use Rattle.rules.proofs.Words.{unit-written, row_written}
 
 -- ---- a unit under another key
 module _ (n serial : ℕ) (units : List LogicalUnit) where
@@ -84,12 +77,6 @@ module _ (n serial : ℕ) (units : List LogicalUnit) where
   }
 
 -- ---- one fresh key
-pub unit-key : (d : Drive) (n : ℕ) → Sound d → exists n d.units ≡ true → 0 < (unit n d.units).serial
-unit-key d n h ex =
-    let f : unit_fits d.numbering (unit n d.units) ≡ true = all_lookup (λ (u : LogicalUnit). u.number) (λ u. unit_fits d.numbering u ≡ true) n d.units no_unit ex h.units.each in
-    let a = and_parts (valid d.numbering (unit n d.units).number) _ f in
-    ltb-true 0 _ (and_parts _ (ltb 0 (unit n d.units).serial) a.1).1
-
 -- what is looked for does not ask for a serial
 pub unit-row-same : (n : ℕ) (kind : Kind) (s : ℕ) → unit_row_of n (with_serial s kind) ≡ unit_row_of n kind
 unit-row-same n Free s = refl
@@ -117,15 +104,12 @@ module _ (d : Drive) (r : ℕ) where
 module _ (d : Drive) (h : Sound d) (more : d.next < 4294967295) where
   unit-sound : (n : ℕ) → exists n d.units ≡ true → Sound (fresh_key d (TheUnit n)) × (swap_refusal d.vault (key_of d (TheUnit n)) d.next ≡ None)
   unit-sound n ex =
-      let p = place_of (λ (u : LogicalUnit). u.number) n d.units ex in
+      let p = unit-place d n ex in
       let i = p.0 in
-      let l : i < length d.units = found_within (λ (u : LogicalUnit). eqb u.number n) d.units i p.1 in
-      let at : get_or d.units i no_unit ≡ unit n d.units = sym (ap (λ (o : Option LogicalUnit). unwrap_or o no_unit) (lookup-found (λ (u : LogicalUnit). u.number) n d.units i p.1 no_unit)) in
-      let g : get_or (serials d.units d.rows) i 0 ≡ (unit n d.units).serial = unit-word d.units d.rows i l ∙ ap (λ (u : LogicalUnit). u.serial) at in
-      let z : (unit n d.units).serial ≡ 0 → ⊥ = (λ e. omega (arith, unit-key d n h ex)) in
-      let w : i < length (serials d.units d.rows) = omega (arith, words_long d.units d.rows) in
+      let at = place d h (TheUnit n) ex in
+      let z = key-nonzero d h (TheUnit n) ex in
       let v : LogicalUnit = record { number = (get_or d.units i no_unit).number; blocks = (get_or d.units i no_unit).blocks; serial = d.next } in
-      let e : serials (with_key n d.next d.units) d.rows ≡ set (serials d.units d.rows) i d.next = ap (λ us. serials us d.rows) (change-found (λ (u : LogicalUnit). u.number) n (λ u. record { number = u.number; blocks = u.blocks; serial = d.next }) d.units i p.1 no_unit) ∙ unit-written d.units d.rows i l v in (
+      let e : serials (with_key n d.next d.units) d.rows ≡ set (serials d.units d.rows) i d.next = ap (λ us. serials us d.rows) (change-found (λ (u : LogicalUnit). u.number) n (λ u. record { number = u.number; blocks = u.blocks; serial = d.next }) d.units i p.1 no_unit) ∙ unit-written d.units d.rows i p.2 v in (
         record {
           usable = h.usable;
           capacity = ap can_be_capacity (swap-capacity d.vault (unit n d.units).serial d.next) ∙ h.capacity;
@@ -133,9 +117,9 @@ module _ (d : Drive) (h : Sound d) (more : d.next < 4294967295) where
           policy = h.policy;
           units = keyed-units n d.next d.units d.numbering h.next.0 h.units;
           rows = rows-units d.units d.rows h.rows (with_key n d.next d.units) (λ k x _. (keyed-exists n d.next d.units k ∙ x, keyed-blocks n d.next d.units k));
-          keys = keys-as (d.next + 1) (swap_after d.vault (unit n d.units).serial d.next) _ _ e (swap-keys d.next d.vault (serials d.units d.rows) h.keys h.next.0 i (unit n d.units).serial w g z);
+          keys = keys-as (d.next + 1) (swap_after d.vault (unit n d.units).serial d.next) _ _ e (swap-keys d.next d.vault (serials d.units d.rows) h.keys h.next.0 i (unit n d.units).serial at.1 at.2 z);
         },
-        swap-done d.next d.vault (serials d.units d.rows) h.keys h.next.0 i (unit n d.units).serial w g z,
+        swap-done d.next d.vault (serials d.units d.rows) h.keys h.next.0 i (unit n d.units).serial at.1 at.2 z,
       )
 
   row-sound : (r : ℕ) → is_range_row (row r d.rows).kind ≡ true → Sound (fresh_key d (TheRow r)) × (swap_refusal d.vault (key_of d (TheRow r)) d.next ≡ None)
@@ -151,10 +135,8 @@ module _ (d : Drive) (h : Sound d) (more : d.next < 4294967295) where
       let f : row_fits d.units d.rows (RangeRow n start len serial) ≡ true = ap (row_fits d.units d.rows) (sym e) ∙ h.rows.each r in
       let x : Row = rekeyed_row d r in
       let xe : x.kind ≡ RangeRow n start len d.next = ap (with_serial d.next) e in
-      let ke : key_or (row r d.rows).kind 0 ≡ serial = ap (λ k. key_or k 0) e in
-      let g : get_or (serials d.units d.rows) (length d.units + r) 0 ≡ key_or (row r d.rows).kind 0 = row_word d.units d.rows r lr in
-      let z : key_or (row r d.rows).kind 0 ≡ 0 → ⊥ = (λ y. omega (arith, ltb-true 0 serial (fits-key d.units d.rows n start len serial f))) in
-      let w : length d.units + r < length (serials d.units d.rows) = omega (arith, words_long d.units d.rows) in
+      let at = place d h (TheRow r) is in
+      let z = key-nonzero d h (TheRow r) is in
       let ew : serials d.units (set d.rows r x) ≡ set (serials d.units d.rows) (length d.units + r) d.next = row_written d.units d.rows r lr x ∙ ap (λ k. set (serials d.units d.rows) (length d.units + r) (key_or k 0)) xe in (
         record {
           usable = h.usable;
@@ -165,9 +147,9 @@ module _ (d : Drive) (h : Sound d) (more : d.next < 4294967295) where
           rows = rows-range d.units d.rows h.rows r n start len d.next x l (ap is_global e) (λ m. ap (unit_row_of m) e) xe
               (fits-exists d.units d.rows n start len serial f) (fits_under d.units d.rows n start len serial f) (fits-inside d.units d.rows n start len serial f) (lt-ltb 0 d.next h.next.0)
               (λ block i c ne. no_other d.units d.rows h.rows (RangeOver n block) (h.rows.ranges n block) r (ap (range_over n block) e ∙ and_from (eqb n n) _ (grind (arith, nat_tests)) c) i ne);
-          keys = keys-as (d.next + 1) (swap_after d.vault (key_or (row r d.rows).kind 0) d.next) _ _ ew (swap-keys d.next d.vault (serials d.units d.rows) h.keys h.next.0 (length d.units + r) (key_or (row r d.rows).kind 0) w g z);
+          keys = keys-as (d.next + 1) (swap_after d.vault (key_or (row r d.rows).kind 0) d.next) _ _ ew (swap-keys d.next d.vault (serials d.units d.rows) h.keys h.next.0 (length d.units + r) (key_or (row r d.rows).kind 0) at.1 at.2 z);
         },
-        swap-done d.next d.vault (serials d.units d.rows) h.keys h.next.0 (length d.units + r) (key_or (row r d.rows).kind 0) w g z,
+        swap-done d.next d.vault (serials d.units d.rows) h.keys h.next.0 (length d.units + r) (key_or (row r d.rows).kind 0) at.1 at.2 z,
       )
 
   pub fresh-sound : (holder : Holder) → HasKey d holder → Sound (fresh_key d holder) × (swap_refusal d.vault (key_of d holder) d.next ≡ None)
@@ -216,11 +198,9 @@ valid-of-row d h r (RangeRow u s l k) e = (ap is_range_row e, tt)
 all-rows : (w : Sought) (rows : List Row) → AllByRecursion (λ r. suits w (row r rows) ≡ true) (all_rows w rows)
 unfolding all_rows
 all-rows w [] = tt
-all-rows w (x ∷ xs) = subst (AllByRecursion (λ r. suits w (row r (x ∷ xs)) ≡ true)) (sym (all-more w x xs)) (go (suits w x) refl (All-map (λ r. suits w (row r (x ∷ xs)) ≡ true) suc (all_rows w xs) (all-rows w xs)))
-  where
-    go : (b : Bool) → suits w x ≡ b → AllByRecursion (λ r. suits w (row r (x ∷ xs)) ≡ true) (map suc (all_rows w xs)) → AllByRecursion (λ r. suits w (row r (x ∷ xs)) ≡ true) (cond b (0 ∷ map suc (all_rows w xs)) (map suc (all_rows w xs)))
-    go true e a = (e, a)
-    go false e a = a
+all-rows w (x ∷ xs) =
+    let later = All-map (λ r. suits w (row r (x ∷ xs)) ≡ true) suc (all_rows w xs) (all-rows w xs) in
+    all-by w x xs (AllByRecursion (λ r. suits w (row r (x ∷ xs)) ≡ true)) (λ e. (e, later)) (λ _. later)
 
 pub range-row-is : (n : ℕ) (kind : Kind) → range_row_of n kind ≡ true → is_range_row kind ≡ true
 range-row-is n Free e = absurd (true≢false (sym e))

@@ -28,7 +28,8 @@ use Rattle.rules.specs.Units.{valid, no_unit, exists, unit, with_unit, without_u
 use Rattle.rules.proofs.Accepted.{passed}
 use Rattle.rules.proofs.Keys.{keys-as, put-capacity, drop-capacity, put-done, put-keys, drop-done, drop-keys, collect-unit, collect-without, filled, cleared}
 use Rattle.rules.proofs.Lookups.{lookup-insert, lookup-remove, has-remove-other, all_insert, all_remove}
-use Rattle.rules.proofs.Renewals.{fresh-sound, unit-key, renewed-sound, valid-of-row, valid-of-unit}
+use Rattle.rules.proofs.Places.{unit-key}
+use Rattle.rules.proofs.Renewals.{fresh-sound, renewed-sound, valid-of-row, valid-of-unit}
 use Rattle.rules.proofs.RowsKept.{any_same, any_at, within, in_table, none-at, kind-free, over-apart, fits-exists, fits_under, fits-key, rows-unit-row, rows-range, rows-free, rows_alike, rows-units}
 use Rattle.rules.proofs.Searches.{missed, at_there, not_there, set-alike, unwritten, each_row}
 use Rattle.rules.proofs.Numbered.{each_row_by, length-each, row-each, each-alike}

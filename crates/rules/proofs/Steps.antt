@@ -19,7 +19,7 @@ use Rattle.rules.specs.Units.{exists}
 use Rattle.vault.proofs.Checks.{Passed}
 use Rattle.rules.proofs.Accepted.{opened, passed, passed-in}
 use Rattle.rules.proofs.Alike.{alike-renewed, alike-free}
-use Rattle.rules.proofs.Renewals.{range-parts}
+use Rattle.rules.proofs.Places.{range-parts}
 use Rattle.rules.proofs.Sounds.{create-sound, delete-sound, locks-sound, unit-row-sound, range-row-sound, range-set-sound, given-up-sound, generated-sound, format-sound, reset-sound, reactivate-sound}
 
 -- what is left is in order, and the vault refused nothing on the way
