@@ -13,5 +13,5 @@ pub struct Layout {
     /// The serial that a fresh key gets next.
     pub next: u32,
     /// 0 or 1: a number, as the host gives it and the sheet has it.
-    pub policy: u32,
+    pub policy: u16,
 }

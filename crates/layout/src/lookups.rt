@@ -1,9 +1,11 @@
-ghost use Rattle.std.specs.Prelude.{◌≡◌, ◌<◌};
+ghost use Rattle.std.specs.Prelude.{◌≡◌, ◌+◌, ◌<◌, ◌≤◌, ◌++◌, length, map};
 ghost use Rattle.rules.specs.Rows.{row, locked, controlling_row};
 ghost use Rattle.rules.specs.Questions.{control_of};
+ghost use Rattle.rules.specs.Sound.{serials, serial_of, row_key};
 
 use crate::content::Layout;
-use rules::row::{Kind, Sought};
+use arrayvec::ArrayVec;
+use rules::row::{Kind, Row, Sought};
 use rules::unit::{Control, LogicalUnit};
 
 impl Layout {
@@ -39,5 +41,33 @@ impl Layout {
             row: row as u32,
             serial,
         }
+    }
+
+    /// The serials of the units, and then those of the rows, with 0 for a row that has no key of its own.
+    pub fn serials(&self) -> ArrayVec<u32, 33>
+        ensures { result.items ≡ serials self.now.units self.now.rows }
+    {
+        let mut all = ArrayVec::new();
+        push_units(&mut all, self.units.as_slice());
+        push_rows(&mut all, self.rows.as_slice());
+        all
+    }
+}
+
+fn push_units(all: &mut ArrayVec<u32, 33>, units: &[LogicalUnit])
+    requires { length all.old.items + length units.now ≤ 33 }
+    ensures { all.new.items ≡ all.old.items ++ map serial_of units.now }
+{
+    for unit in units {
+        all.push(unit.serial);
+    }
+}
+
+fn push_rows(all: &mut ArrayVec<u32, 33>, rows: &[Row])
+    requires { length all.old.items + length rows.now ≤ 33 }
+    ensures { all.new.items ≡ all.old.items ++ map row_key rows.now }
+{
+    for row in rows {
+        all.push(row.key());
     }
 }

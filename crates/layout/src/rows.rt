@@ -1,5 +1,6 @@
 ghost use Rattle.std.specs.Prelude.{◌≡◌, ℕ, ◌<◌, ◌∷◌, length, replicate, IfSome};
-ghost use Rattle.rules.specs.Rows.{free_row, global_row, row, lowest_row};
+ghost use Rattle.rules.specs.Methods.{other_rows};
+ghost use Rattle.rules.specs.Rows.{free_row, global_row, row, lowest_row, with_row};
 
 use rules::row::{Flags, Kind, Row, Sought, Standing};
 use std::marker::Model;
@@ -40,6 +41,20 @@ impl Rows {
         Rows { list }
     }
 
+    /// The rows with this one's own range out of account.
+    pub fn without(&self, at: usize) -> Rows
+        requires { at < 17 }
+        ensures { result ≡ other_rows self.now at }
+    {
+        let mut list = self.list;
+        list[at] = Row {
+            kind: Kind::Free,
+            flags: Flags::BLANK,
+            ..list[at]
+        };
+        Rows { list }
+    }
+
     /// The rows, from row 0.
     pub fn as_slice(&self) -> &[Row]
         ensures rows { result.now ≡ self.now }
@@ -54,6 +69,14 @@ impl Rows {
         ensures { result ≡ row at self.now }
     {
         self.list[at]
+    }
+
+    /// Puts a row in the place of another.
+    pub fn put(&mut self, at: usize, row: Row)
+        requires { at < 17 }
+        ensures { self.new ≡ with_row at row self.old }
+    {
+        self.list[at] = row;
     }
 
     /// The number of the lowest row that is looked for.

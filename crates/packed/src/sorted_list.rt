@@ -1,6 +1,6 @@
-ghost use Rattle.std.specs.Prelude.{◌≡◌, ℕ, ◌<◌, ◌≤◌, Bool, not, if◌then◌else◌, List, [], length, is_some, Some, IfOk, IfErr, ◌==◌};
+ghost use Rattle.std.specs.Prelude.{◌≡◌, ℕ, ◌<◌, ◌≤◌, Bool, not, if◌then◌else◌, List, [], length, is_some, Some, IfOk, IfErr, IfSome, ◌==◌};
 ghost use Rattle.packed.specs.First.{first};
-ghost use Rattle.packed.specs.Rising.{has, lookup, insert, remove};
+ghost use Rattle.packed.specs.Rising.{has, lookup, insert, remove, rises};
 ghost use Rattle.packed.specs.Place.{IsGapFor};
 
 use crate::Keyed;
@@ -31,6 +31,18 @@ impl<T: Keyed + Copy + Default, const CAP: usize> SortedList<T, CAP> {
     {
         SortedList {
             items: ArrayVec::new(),
+        }
+    }
+
+    /// These elements, where they rise.
+    pub fn from_rising(items: ArrayVec<T, CAP>) -> Option<Self>
+        ensures rising { is_some result ≡ rises T.Keyed.key 0 items.items }
+        ensures list { IfSome result (λ l. l ≡ items.items) }
+    {
+        if is_rising(items.as_slice()) {
+            Some(SortedList { items })
+        } else {
+            None
         }
     }
 
@@ -104,5 +116,19 @@ impl<T: Keyed + Copy + Default, const CAP: usize> SortedList<T, CAP> {
             Ok(at) => Some(self.items.remove(at)),
             Err(_) => None,
         }
+    }
+}
+
+/// Whether each number is above the one before it.
+#[tactic(auto, unfolding(crate::specs::Rising::rises))]
+fn is_rising<T: Keyed>(items: &[T]) -> bool
+    ensures { result ≡ rises T.Keyed.key 0 items.now }
+{
+    match items {
+        [one, others @ ..] => match others {
+            [other, ..] => one.key_of() < other.key_of() && is_rising(others),
+            [] => true,
+        },
+        [] => true,
     }
 }

@@ -213,7 +213,7 @@ module _ (d : Drive) (h : Sound d) where
       )
 
   -- ---- SetRange
-  pub range-set-sound : (r start len n s l k : ℕ) → kind_of d r ≡ RangeRow n s l k → ltb (unit n d.units).blocks (start + len) ≡ false → is_there (RangeSharing n start len) (other_rows d r) ≡ false → Sound (range_set d r start len)
+  pub range-set-sound : (r start len n s l k : ℕ) → kind_of d r ≡ RangeRow n s l k → ltb (unit n d.units).blocks (start + len) ≡ false → is_there (RangeSharing n start len) (other_rows d.rows r) ≡ false → Sound (range_set d r start len)
   range-set-sound r start len n s l k e past sharing =
       let x : Row = with_kind (with_range start len (kind_of d r)) (row_of d r) in
       let xe : x.kind ≡ RangeRow n start len k = ap (with_range start len) e in

@@ -53,8 +53,8 @@ module _ (d : Drive) (h : Sound d) where
       let p = passed d (set_range_checks d caller r start len) e in
       let q = range-parts (kind_of d r) (not-false _ p.1.1.0) in
       let is : unit_of d r ≡ q.0 = ap (λ k. unit_or k d.numbering.mark) q.4 in
-      let past : ends_past d q.0 start len ≡ false = ap (λ n. ends_past d n start len) (sym is) ∙ p.1.1.1.1.0 in
-      let sharing : shares_block (other_rows d r) q.0 start len ≡ false = ap (λ n. shares_block (other_rows d r) n start len) (sym is) ∙ p.1.1.1.1.1.0 in
+      let past : ends_past d.units q.0 start len ≡ false = ap (λ n. ends_past d.units n start len) (sym is) ∙ p.1.1.1.1.0 in
+      let sharing : shares_block (other_rows d.rows r) q.0 start len ≡ false = ap (λ n. shares_block (other_rows d.rows r) n start len) (sym is) ∙ p.1.1.1.1.1.0 in
       range-set-sound d h r start len q.0 q.1 q.2 q.3 q.4 past sharing
 
   pub left-kept : (c : Call) → refusal d c ≡ None → Kept d (requests d c) (left d c)

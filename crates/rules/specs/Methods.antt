@@ -14,17 +14,18 @@ use Rattle.rules.specs.declared.row.Sought.TheVariants.{FreeRow, RangeRowOf, Ran
 use Rattle.rules.specs.declared.row.Standing.{Standing}
 use Rattle.rules.specs.declared.row.Standing.TheVariants.{Shared, SingleUser}
 use Rattle.rules.specs.declared.unit.Holder.TheVariants.{TheUnit}
+use Rattle.rules.specs.declared.unit.LogicalUnit.{LogicalUnit}
 use Rattle.rules.specs.Causes.{Done}
 use Rattle.rules.specs.Drive.{Drive, with_rows, with_policy, with_vault, row_of, kind_of, unit_of, single_user, row_locked, spent, run_out, unused_keys, refused_by}
 use Rattle.rules.specs.FreshKeys.{fresh_key, fresh_keys, renewed_by}
-use Rattle.rules.specs.Rows.{blank, lock_enabled, is_free, is_a_unit_row, is_range_row, with_range, with_row, with_flags, with_kind, anew, lowest_row, is_there, numbered, row_under, has_unit_row}
+use Rattle.rules.specs.Rows.{blank, lock_enabled, is_free, is_a_unit_row, is_range_row, with_range, with_row, with_flags, with_kind, anew, row, lowest_row, is_there, numbered, row_under, has_unit_row}
 use Rattle.rules.specs.Sessions.{admins, owner, mover, is_not}
 use Rattle.rules.specs.Units.{exists, unit}
 
 -- ---- ranges of a unit's blocks
 -- a range ends past its unit
-abbrev pub ends_past : Drive → ℕ → ℕ → ℕ → Bool
-ends_past d n start length = nat_lt (unit n d.units).blocks (start + length)
+abbrev pub ends_past : List LogicalUnit → ℕ → ℕ → ℕ → Bool
+ends_past units n start length = nat_lt (unit n units).blocks (start + length)
 
 -- it shares a block with a range row of the unit
 abbrev pub shares_block : List Row → ℕ → ℕ → ℕ → Bool
@@ -43,7 +44,7 @@ unit_row_checks d start length standing =
 -- any other gives it a range row
 abbrev pub range_row_checks : Drive → ℕ → ℕ → ℕ → Standing → List (Bool × Cause)
 range_row_checks d n start length standing =
-    (ends_past d n start length, PastUnit)
+    (ends_past d.units n start length, PastUnit)
     ∷ (shares_block d.rows n start length, SharesBlock)
     ∷ (single_user d (row_under d.rows n), SingleUserInTheWay)
     ∷ (row_locked d (row_under d.rows n), Locked)
@@ -135,8 +136,8 @@ deassign_answer d caller r keep = answer (deassign_refusal d caller r keep) tt
 
 -- ---- SetRange: a range row over other blocks
 -- the rows with this one's own range out of account
-abbrev pub other_rows : Drive → ℕ → List Row
-other_rows d r = become d r Free
+abbrev pub other_rows : List Row → ℕ → List Row
+other_rows rows r = with_row r (anew Free (row r rows)) rows
 
 abbrev pub set_range_checks : Drive → ℕ → ℕ → ℕ → ℕ → List (Bool × Cause)
 set_range_checks d caller r start length =
@@ -144,8 +145,8 @@ set_range_checks d caller r start length =
     ∷ (is_free (kind_of d r), RowFree)
     ∷ (not (is_range_row (kind_of d r)), WrongKind)
     ∷ (is_not caller (mover d.policy r (row_of d r)), CallerNotAllowed)
-    ∷ (ends_past d (unit_of d r) start length, PastUnit)
-    ∷ (shares_block (other_rows d r) (unit_of d r) start length, SharesBlock)
+    ∷ (ends_past d.units (unit_of d r) start length, PastUnit)
+    ∷ (shares_block (other_rows d.rows r) (unit_of d r) start length, SharesBlock)
     ∷ (row_locked d r || row_locked d (row_under d.rows (unit_of d r)), Locked)
     ∷ []
 

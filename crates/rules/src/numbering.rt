@@ -13,6 +13,15 @@ pub struct Bounds {
     pub code: u16,
 }
 
+impl Bounds {
+    /// Whether units are given this number.
+    pub fn is_valid(self, number: u32) -> bool
+        ensures { result ≡ valid self number }
+    {
+        self.first <= number && number <= self.last
+    }
+}
+
 /// How units are numbered. Code over numberings is proved once, from this law.
 pub trait Numbering {
     const BOUNDS: Bounds;
@@ -52,11 +61,4 @@ impl Numbering for Scsi {
     ghost BOUNDS = { record { mark = 0xFFFF_FFFF; first = 0; last = 0xFFFF_FFFE; code = 2 } };
 
     ghost apart = { refl };
-}
-
-/// Whether the numbering gives this number to units.
-pub fn is_valid<N: Numbering>(number: u32) -> bool
-    ensures { result ≡ valid N.BOUNDS number }
-{
-    N::BOUNDS.first <= number && number <= N::BOUNDS.last
 }

@@ -1,5 +1,8 @@
 ghost use Rattle.std.specs.Prelude.{◌≡◌};
-ghost use Rattle.rules.specs.Rows.{locked, suits, shares};
+ghost use Rattle.rules.specs.Questions.{fields_of};
+ghost use Rattle.rules.specs.Rows.{key_or, locked, suits, shares};
+
+use crate::numbering::Bounds;
 
 /// The five lock flags of a row.
 #[derive(Clone, Copy, PartialEq, Eq)]
@@ -74,6 +77,53 @@ pub struct RowFields {
     pub flags: Flags,
     pub is_unit_row: bool,
     pub standing: Standing,
+}
+
+impl Row {
+    /// The row as the sheet has it.
+    pub fn fields(self, bounds: Bounds) -> RowFields
+        ensures { result ≡ fields_of bounds self }
+    {
+        let bare = RowFields {
+            unit: bounds.mark,
+            serial: 0,
+            start: 0,
+            length: 0,
+            flags: self.flags,
+            is_unit_row: false,
+            standing: self.standing,
+        };
+        match self.kind {
+            Kind::Free | Kind::Global => bare,
+            Kind::UnitRow { unit } => RowFields {
+                unit,
+                is_unit_row: true,
+                ..bare
+            },
+            Kind::RangeRow {
+                unit,
+                start,
+                length,
+                serial,
+            } => RowFields {
+                unit,
+                serial,
+                start,
+                length,
+                ..bare
+            },
+        }
+    }
+
+    /// The serial of the row's own key, or 0 where it has none.
+    pub fn key(&self) -> u32
+        ensures { result ≡ key_or self.now.kind 0 }
+    {
+        match self.kind {
+            Kind::RangeRow { serial, .. } => serial,
+            _ => 0,
+        }
+    }
 }
 
 /// What a search over the rows looks for.

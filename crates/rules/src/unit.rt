@@ -1,4 +1,4 @@
-ghost use Rattle.std.specs.Prelude.{◌≡◌, ℕ};
+ghost use Rattle.std.specs.Prelude.{◌≡◌, ℕ, ◌+◌, nat_lt};
 
 use packed::Keyed;
 
@@ -9,6 +9,15 @@ pub struct LogicalUnit {
     pub blocks: u64,
     /// Names the unit's key.
     pub serial: u32,
+}
+
+impl LogicalUnit {
+    /// Whether a range ends past the unit. Start and length may be any numbers, so their sum is not made.
+    pub fn is_passed_by(self, start: u64, length: u64) -> bool
+        ensures { result ≡ nat_lt self.blocks (start + length) }
+    {
+        start > self.blocks || length > self.blocks - start
+    }
 }
 
 /// Units are known by their numbers.

@@ -1,14 +1,17 @@
 ghost use Rattle.std.specs.Prelude.{◌≡◌, ℕ, false, List, ◌∷◌, is_ok};
 ghost use Rattle.rules.specs.Drive.{Drive};
 ghost use Rattle.rules.specs.Commands.{create_answer, create_after, delete_answer, delete_after};
-ghost use Rattle.rules.specs.Questions.{unused_answer, controls_answer};
+ghost use Rattle.rules.specs.Questions.{unused_answer, controls_answer, read_row_answer};
 ghost use Rattle.vault.specs.Serials.{holds};
 ghost use Rattle.layout.specs.View.{drive};
+ghost use Rattle.sheet.specs.Saving.{save_answer, saved, describe_answer, described};
 
+use crate::refusals::check_room;
+use crate::session::ReadingSession;
 use crate::state::Table;
 use rules::cause::Cause;
 use rules::numbering::Numbering;
-use rules::row::Row;
+use rules::row::{Row, RowFields};
 use rules::unit::{Control, LogicalUnit};
 use vault::Vault;
 
@@ -41,6 +44,20 @@ pub trait Calls {
     /// The row that controls a block, and the serial of the block's key.
     fn controls(&self, number: u32, block: u64) -> Result<Control, Cause>
         ensures { result ≡ controls_answer (model self.now) number block };
+
+    /// A row as the sheet has it, and its standing.
+    fn read_row(&self, session: &ReadingSession, row: u32) -> Result<RowFields, Cause>
+        ensures { result ≡ read_row_answer (model self.now) row };
+
+    /// Writes the sheet to the start of a buffer, and answers how long it is.
+    fn save(&self, out: &mut [u8]) -> Result<u32, Cause>
+        ensures answer { result ≡ save_answer (model self.now) out.old }
+        ensures buffer { out.new ≡ saved (model self.now) out.old };
+
+    /// Writes the descriptor to the start of a buffer.
+    fn describe(&self, out: &mut [u8]) -> Result<(), Cause>
+        ensures answer { result ≡ describe_answer (model self.now) out.old }
+        ensures buffer { out.new ≡ described (model self.now) out.old };
 
     /// Whether the vault holds the key with this serial.
     fn holds(&self, serial: u32) -> bool
@@ -88,6 +105,31 @@ impl<'v, V: Vault, N: Numbering> Calls for Table<'v, V, N> {
             return Err(Cause::BlockOutOfRange);
         }
         Ok(self.layout.control(unit, block))
+    }
+
+    // Any session can read, so its caller is not asked for.
+    fn read_row(&self, _session: &ReadingSession, row: u32) -> Result<RowFields, Cause> {
+        self.check_open()?;
+        if row > 16 {
+            return Err(Cause::NoSuchRow);
+        }
+        Ok(self.layout.rows.get(row as usize).fields(N::BOUNDS))
+    }
+
+    fn save(&self, out: &mut [u8]) -> Result<u32, Cause> {
+        self.check_open()?;
+        let total = sheet::save::total(&self.layout);
+        check_room(out, total)?;
+        sheet::save::save(&self.layout, N::BOUNDS, out);
+        Ok(total)
+    }
+
+    fn describe(&self, out: &mut [u8]) -> Result<(), Cause> {
+        self.check_open()?;
+        check_room(out, 20)?;
+        let capacity = self.vault.capacity();
+        sheet::describe::describe(&self.layout.rows, capacity, self.unused_keys(), out);
+        Ok(())
     }
 
     fn holds(&self, serial: u32) -> bool {

@@ -2,5 +2,7 @@
 #![tactic(auto)]
 
 pub mod calls;
+pub mod loading;
 pub mod refusals;
+pub mod session;
 pub mod state;

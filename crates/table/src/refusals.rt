@@ -1,12 +1,13 @@
 ghost use Rattle.std.specs.Prelude.{◌≡◌, ℕ, []};
-ghost use Rattle.vault.specs.Checks.{answer};
+ghost use Rattle.vault.specs.Checks.{answer, first_of};
 ghost use Rattle.rules.specs.Commands.{create_answer, delete_answer};
 ghost use Rattle.rules.specs.Drive.{unused_keys, refused_by};
+ghost use Rattle.sheet.specs.Saving.{room_checks};
 
 use crate::calls::Calls;
 use crate::state::Table;
 use rules::cause::Cause;
-use rules::numbering::{Numbering, is_valid};
+use rules::numbering::Numbering;
 use rules::row::Sought;
 use vault::Vault;
 
@@ -33,7 +34,7 @@ impl<'v, V: Vault, N: Numbering> Table<'v, V, N> {
         ensures { result ≡ create_answer (⟦<Table<'v, V, N> as Calls>⟧.model self.now) number blocks }
     {
         self.check_open()?;
-        if !is_valid::<N>(number) {
+        if !N::BOUNDS.is_valid(number) {
             return Err(Cause::NoSuchUnit);
         }
         if self.layout.units.contains(number) {
@@ -77,4 +78,14 @@ impl<'v, V: Vault, N: Numbering> Table<'v, V, N> {
         }
         Ok(())
     }
+}
+
+/// Whether a buffer has room for so many bytes.
+pub(crate) fn check_room(out: &[u8], needed: u32) -> Result<(), Cause>
+    ensures { result ≡ answer (first_of (room_checks needed out.now)) tt }
+{
+    if out.len() < needed as usize {
+        return Err(Cause::BufferShort { needed });
+    }
+    Ok(())
 }

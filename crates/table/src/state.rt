@@ -1,4 +1,7 @@
-ghost use Rattle.std.specs.Prelude.{◌≡◌, ℕ, Bool};
+ghost use Rattle.std.specs.Prelude.{◌≡◌, ℕ, Bool, not, [], ◌∷◌};
+ghost use Rattle.vault.specs.Checks.{answer, first_of};
+ghost use Rattle.vault.specs.Kinds.{can_be_capacity};
+ghost use Rattle.rules.specs.declared.cause.Cause.TheVariants.{Closed};
 ghost use Rattle.rules.specs.LayingOut.{fresh_check, fresh};
 
 use crate::calls::Calls;
@@ -22,12 +25,19 @@ pub struct Table<'v, V: Vault, N: Numbering> {
 pub fn fresh_check<V: Vault>(vault: &V) -> Result<(), Cause>
     ensures { result ≡ fresh_check (V.meaning vault.now) }
 {
-    // A table is told its vault's capacity, so this check compares it with 1 and 64 as the vaults' own checks do theirs.
-    let capacity = vault.capacity();
-    if capacity < 1 || capacity > 64 {
+    check_capacity(vault)?;
+    if vault.count() > 0 {
         return Err(Cause::Closed);
     }
-    if vault.count() > 0 {
+    Ok(())
+}
+
+// A table is told its vault's capacity, so this check compares it with 1 and 64 as the vaults' own checks do theirs.
+pub(crate) fn check_capacity<V: Vault>(vault: &V) -> Result<(), Cause>
+    ensures { result ≡ answer (first_of ((not (can_be_capacity (V.meaning vault.now).capacity), Closed) ∷ [])) tt }
+{
+    let capacity = vault.capacity();
+    if capacity < 1 || capacity > 64 {
         return Err(Cause::Closed);
     }
     Ok(())

@@ -31,3 +31,7 @@ all-passed (check ∷ checks) e = go check.0 e (all-passed checks)
     go : (b : Bool) → cond b (Some check.1) (first_of checks) ≡ None → (first_of checks ≡ None → Passed checks) → (b ≡ false) × Passed checks
     go true e rest = absurd (cc)
     go false e rest = (refl, rest e)
+
+pub none-applies : {C : Type 0} (checks : List (Bool × C)) → Passed checks → first_of checks ≡ None
+none-applies [] p = refl
+none-applies (check ∷ checks) p = rw p.0 (none-applies checks p.1)

@@ -1,10 +1,11 @@
 ghost use Rattle.vault.specs.Kinds.{chip_check, chip_meaning, chip_new, in_use, overwritten, chip_put, chip_swap, chip_drop};
 ghost use Rattle.vault.specs.Meaning.{sound, put_answer, put_after, swap_answer, swap_after, drop_answer, drop_after};
-ghost use Rattle.vault.specs.Serials.{distinct, holds};
+ghost use Rattle.vault.specs.Serials.{holds};
 ghost use Rattle.std.specs.Prelude.{◌≡◌, ℕ, ◌≤◌, true, false, [], ◌∷◌, length, take, is_ok};
 
 use crate::refusal::{VaultRefusal, check_drop, check_put, check_swap};
 use crate::{KeySet, Vault};
+use crate::serials::all_distinct;
 use packed::{contains, place_of};
 
 /// A vault in the registers of a device, which has each as a word: 0, or a held serial.
@@ -65,17 +66,6 @@ impl<'a> KeyChip<'a> {
         if let Some(at) = place_of(self.words(), old) {
             self.registers[at] = new;
         }
-    }
-}
-
-/// Whether no word but 0 stands twice.
-#[tactic(auto, unfolding(crate::specs::Serials::distinct))]
-fn all_distinct(words: &[u32]) -> bool
-    ensures { result ≡ distinct words.now }
-{
-    match words {
-        [] => true,
-        [word, others @ ..] => { (*word == 0 || !contains(others, *word)) && all_distinct(others) }
     }
 }
 

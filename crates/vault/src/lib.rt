@@ -8,6 +8,7 @@ ghost use Rattle.std.specs.Prelude.{◌≡◌, ℕ, true, false, List, length, i
 pub mod chip;
 pub mod file;
 pub mod refusal;
+pub mod serials;
 
 use refusal::VaultRefusal;
 

@@ -1,0 +1,17 @@
+pub mod Bits
+pub mod Each
+pub mod UnitChecks
+pub mod Relations
+pub mod SerialChecks
+pub mod SoundDrives
+pub mod RowRecords
+pub mod Masks
+pub mod RowLists
+pub mod Lengths
+pub mod Layers
+pub mod Headers
+pub mod RowOrders
+pub mod Widths
+pub mod Exact
+pub mod Reading
+pub mod Writing
