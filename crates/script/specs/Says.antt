@@ -51,7 +51,7 @@ Says (call.Save path) ws left = ws ≡ codes "save" ∷ path.now ∷ left
 abbrev pub SaysBy : ℕ → Call → List (List ℕ) → List (List ℕ) → Type 0
 SaysBy caller k ws left = (all : List (List ℕ)) → NamesCaller caller all ws → Says k all left
 
--- the words list the serials that the vault holds, no more than its capacity, or there are none
+-- the words list the serials that the vault holds, no more than the capacity; no word stands where it holds the sheet's own
 abbrev pub Holds : ℕ → Option (Vec ℕ Global) → List (List ℕ) → Type 0
 Holds capacity None ws = ws ≡ []
 Holds capacity (Some serials) ws =
