@@ -17,6 +17,10 @@ pub enum Fault<'a> {
     NotANumber(&'a str),
     #[error("the number `{0}` does not fit")]
     TooLarge(&'a str),
+    #[error("`0` is no user")]
+    NoUser,
+    #[error("there are more serials than the capacity of {0}")]
+    TooManySerials(u32),
     #[error("{0} is missing")]
     Missing(&'static str),
     #[error("`{0}` is a word too many")]

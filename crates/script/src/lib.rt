@@ -10,7 +10,7 @@ pub mod numbers;
 mod parser;
 mod words;
 
-pub use calls::{Call, Layout, Line, Script};
+pub use calls::{Call, Layout, Line, Query, Script, Source};
 pub use error::ScriptError;
 pub use fault::Fault;
 pub use kinds::{NumberingKind, VaultKind};

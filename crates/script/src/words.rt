@@ -1,7 +1,8 @@
 //! The words of a line, one after the other.
-ghost use Rattle.std.specs.Prelude.{◌≡◌, [], IfOk, string_bytes, MatchResult, ◌≢◌, List, ℕ};
+ghost use Rattle.std.specs.Prelude.{◌≡◌, [], IfOk, string_bytes, MatchResult, IsErr, ◌≢◌, List, ℕ, vec_items};
 ghost use Rattle.std.specs.Iterator.{YieldsFirstRef, item_count};
 ghost use Rattle.script.specs.Line.{uncommented, words_of, spaced, Given, Counted};
+ghost use Rattle.script.specs.Says.{WriteAll32};
 
 use crate::fault::Fault;
 use crate::numbers::{Number, NumberFault};
@@ -56,10 +57,7 @@ impl<'a> Words<'a> {
         ensures { Counted N.written self.old result self.new }
     {
         let word = self.word(what)?;
-        N::parse(word).map_err(|fault| match fault {
-            NumberFault::NotANumber => Fault::NotANumber(word),
-            NumberFault::TooLarge => Fault::TooLarge(word),
-        })
+        number_of(word)
     }
 
     /// Refuses a word after the last one that the call takes.
@@ -79,4 +77,25 @@ impl<'a> Words<'a> {
         let words: Vec<&str> = self.collect(heap)?;
         words.join(heap, " ")
     }
+
+    /// The words that are left, each of which has to be a number.
+    pub fn numbers(self, heap: Global) -> Result<Vec<u32>, Fault<'a>>
+        ensures { IfOk result (λ ns. WriteAll32 self.entry (vec_items ns)) }
+    {
+        let mut numbers = Vec::new(heap);
+        for word in self {
+            numbers.push(number_of(word)?)?;
+        }
+        Ok(numbers)
+    }
+}
+
+/// The number that the word writes.
+fn number_of<'a, N: Number>(word: &'a str) -> Result<N, Fault<'a>>
+    ensures { MatchResult result (λ n. N.written word.now ≡ Ok n) (λ _. IsErr (N.written word.now)) }
+{
+    N::parse(word).map_err(|fault| match fault {
+        NumberFault::NotANumber => Fault::NotANumber(word),
+        NumberFault::TooLarge => Fault::TooLarge(word),
+    })
 }
