@@ -15,3 +15,4 @@ pub mod Widths
 pub mod Exact
 pub mod Reading
 pub mod Writing
+pub mod Promised
