@@ -1,5 +1,6 @@
 -- What a saved sheet is good for, of the check and of the drive that is laid out.
-use Rattle.std.proofs.Common.{◌≡◌, ℕ, true, false, List, Some, None, Option, refl, sym, ap, ◌∙◌, is_ok}
+use Rattle.std.proofs.Common.{◌≡◌, ℕ, true, false, List, Some, None, Ok, Option, Result, length, take, drop, refl, sym, ap, ◌∙◌, is_ok}
+use Rattle.std.proofs.Math.Seq.{take-append_seam}
 use Rattle.vault.specs.Checks.{answer, unless}
 use Rattle.vault.specs.Meaning.{Meaning, sound}
 use Rattle.fields.specs.Fields.{IsBytes}
@@ -11,7 +12,9 @@ use Rattle.rules.specs.Units.{valid}
 use Rattle.sheet.specs.Format.{Fits}
 use Rattle.sheet.specs.Loading.{drive_on, load, load_check, load_refusal, shut}
 use Rattle.sheet.specs.Promises.{IsSheetOf, LoadsWhatWasSaved, SavesWhatWasLoaded, TakesSavedSheets}
+use Rattle.sheet.specs.Saving.{filled, save_answer, save_refusal, saved, sheet, total_of}
 use Rattle.sheet.proofs.Exact.{loads-saved, saved-loads}
+use Rattle.sheet.proofs.Lengths.{length-sheet}
 
 module _ (bounds : Bounds) (vault : Meaning) (s : List ℕ) where
   module _ (fits : Fits bounds) (apart : valid bounds bounds.mark ≡ false) (ok : sound vault ≡ true) (bytes : IsBytes s) where
@@ -41,3 +44,14 @@ module _ (bounds : Bounds) (vault : Meaning) (s : List ℕ) where
             → IsSheetOf bounds vault s (unless refusal (shut bounds vault) (drive_on bounds vault s))
         go None e opened = loads-saved bounds vault ok s bytes e
         go (Some cause) e opened = absurd (cc)
+
+-- what Save has written, as far as it answers that it has
+pub saved-sheet : (d : Drive) → length d.rows ≡ 17 → (old new : List ℕ) (n : ℕ) → ◌≡◌ {A = Result ℕ Cause} (Ok n) (save_answer d old) → new ≡ saved d old → take n new ≡ sheet d
+saved-sheet d seventeen old new n accepted is = go (save_refusal d old) accepted is
+  where
+    go : (refusal : Option Cause) → ◌≡◌ {A = Result ℕ Cause} (Ok n) (answer refusal (total_of d)) → new ≡ unless refusal old (filled (sheet d) old) → take n new ≡ sheet d
+    go (Some cause) accepted is = absurd (cc)
+    go None accepted is =
+        let total : n ≡ total_of d = cc in
+        let long : n ≡ length (sheet d) = total ∙ sym (length-sheet d seventeen) in
+        rw (is, long) (take-append_seam (sheet d) (drop (length (sheet d)) old))

@@ -1,6 +1,6 @@
 -- Load: what a sheet says, what is wrong with it, and the drive that it describes.
-use Rattle.std.specs.Prelude.{◌≡◌, ℕ, ◌+◌, ◌*◌, ◌^◌, Bool, true, cond, not, ◌&&◌, ◌||◌, List, [], ◌∷◌, ◌++◌, map, length, Option, ◌==◌, false, nat_le, nat_lt}
-use Rattle.std.specs.List.{enumerate_from, list_any, range_with_len}
+use Rattle.std.specs.Prelude.{ℕ, ◌^◌, Bool, true, cond, not, ◌&&◌, ◌||◌, List, [], ◌∷◌, ◌++◌, map, length, Option, ◌==◌, false, nat_le, nat_lt}
+use Rattle.std.specs.List.{enumerate_from, list_any}
 use Rattle.std.specs.Str.{bytes_eq as list_eq}
 use Rattle.packed.specs.Rising.{rises}
 use Rattle.vault.specs.Checks.{first_of, answer, unless}

@@ -1,8 +1,12 @@
 //! The saved form of a table, byte for byte.
 #![tactic(auto)]
 
-pub mod describe;
-pub mod load;
+mod descriptor;
 mod meaning;
-pub mod records;
-pub mod save;
+mod reader;
+mod records;
+mod writer;
+
+pub use descriptor::describe;
+pub use reader::load;
+pub use writer::{save, total};

@@ -118,9 +118,9 @@ impl<'v, V: Vault, N: Numbering> Calls for Table<'v, V, N> {
 
     fn save(&self, out: &mut [u8]) -> Result<u32, Cause> {
         self.check_open()?;
-        let total = sheet::save::total(&self.layout);
+        let total = sheet::total(&self.layout);
         check_room(out, total)?;
-        sheet::save::save(&self.layout, N::BOUNDS, out);
+        sheet::save(&self.layout, N::BOUNDS, out);
         Ok(total)
     }
 
@@ -128,7 +128,7 @@ impl<'v, V: Vault, N: Numbering> Calls for Table<'v, V, N> {
         self.check_open()?;
         check_room(out, 20)?;
         let capacity = self.vault.capacity();
-        sheet::describe::describe(&self.layout.rows, capacity, self.unused_keys(), out);
+        sheet::describe(&self.layout.rows, capacity, self.unused_keys(), out);
         Ok(())
     }
 

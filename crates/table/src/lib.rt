@@ -4,5 +4,6 @@
 pub mod calls;
 pub mod loading;
 pub mod refusals;
+pub mod restoring;
 pub mod session;
 pub mod state;

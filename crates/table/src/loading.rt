@@ -72,7 +72,7 @@ fn read<V: Vault, N: Numbering>(vault: &V, sheet: &[u8]) -> Result<Layout, Cause
 {
     let bounds = bounds_of::<N>();
     check_capacity(vault)?;
-    let layout = sheet::load::load(sheet, bounds)?;
+    let layout = sheet::load(sheet, bounds)?;
     if !holds_just(vault, layout.serials().as_slice()) {
         return Err(Cause::OtherKeys);
     }

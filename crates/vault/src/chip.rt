@@ -4,8 +4,8 @@ ghost use Rattle.vault.specs.Serials.{holds};
 ghost use Rattle.std.specs.Prelude.{◌≡◌, ℕ, ◌≤◌, true, false, [], ◌∷◌, length, take, is_ok};
 
 use crate::refusal::{VaultRefusal, check_drop, check_put, check_swap};
-use crate::{KeySet, Vault};
 use crate::serials::all_distinct;
+use crate::{KeySet, Vault};
 use packed::{contains, place_of};
 
 /// A vault in the registers of a device, which has each as a word: 0, or a held serial.

@@ -4,7 +4,7 @@ use Rattle.fields.proofs.Bytes.{written-none}
 use Rattle.sheet.specs.Format.{unit_bytes}
 use Rattle.sheet.proofs.Lengths.{length-unit}
 use Rattle.sheet.proofs.Writing.{wrote-next}
-use Rattle.sheet.proofs.save.write_units.Goals as goal
+use Rattle.sheet.proofs.writer.write_units.Goals as goal
 
 pub loop-unit-init : goal.loop-unit-init
 loop-unit-init c = record { place = omega arith; bytes = sym (written-none c.args.at c.args.out.now) }

@@ -5,7 +5,7 @@ use Rattle.sheet.specs.Format.{row_bytes, row_fields}
 use Rattle.sheet.specs.Saving.{record_of}
 use Rattle.sheet.proofs.Lengths.{length-row}
 use Rattle.sheet.proofs.Writing.{wrote-next}
-use Rattle.sheet.proofs.save.write_rows.Goals as goal
+use Rattle.sheet.proofs.writer.write_rows.Goals as goal
 
 pub loop-row-init : goal.loop-row-init
 loop-row-init c = record { place = omega arith; bytes = sym (written-none c.args.at c.args.out.now) }

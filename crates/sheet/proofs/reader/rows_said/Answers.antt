@@ -4,7 +4,7 @@ use Rattle.rules.specs.Rows.{free_row}
 use Rattle.sheet.specs.declared.records.RowRecord.{RowRecord}
 use Rattle.sheet.specs.Loading.{row_said}
 use Rattle.sheet.proofs.Reading.{made-more, made-all}
-use Rattle.sheet.proofs.load.rows_said.Goals as goal
+use Rattle.sheet.proofs.reader.rows_said.Goals as goal
 
 -- what stands for a record where there is none
 abbrev no_record : RowRecord

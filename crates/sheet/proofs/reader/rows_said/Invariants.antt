@@ -1,9 +1,8 @@
 use Rattle.std.proofs.Common.{◌≡◌, ℕ, ◌<◌, length, slice_index_or}
-use Rattle.rules.specs.declared.row.Row.{Row}
 use Rattle.rules.specs.Rows.{row}
 use Rattle.sheet.specs.declared.records.RowRecord.{RowRecord}
 use Rattle.sheet.specs.Loading.{row_said}
-use Rattle.sheet.proofs.load.rows_said.Given as goal
+use Rattle.sheet.proofs.reader.rows_said.Given as goal
 
 abbrev pub invariant-loop-i : goal.invariant-loop-i
 invariant-loop-i l = record {

@@ -2,7 +2,7 @@ use Rattle.std.proofs.Common.{ap, ◌∙◌}
 use Rattle.fields.specs.Fields.{bytes_of, written}
 use Rattle.sheet.specs.Saving.{descriptor_fields}
 use Rattle.sheet.proofs.Writing.{from-start}
-use Rattle.sheet.proofs.describe.describe.Goals as goal
+use Rattle.sheet.proofs.descriptor.describe.Goals as goal
 
 pub returns : goal.returns
 returns c =

@@ -1,4 +1,4 @@
-use Rattle.std.proofs.Common.{◌≡◌, ◌+◌, ◌++◌, false, List, map, sym, ap, ◌∙◌, length, arith}
+use Rattle.std.proofs.Common.{◌+◌, ◌++◌, false, sym, ap, ◌∙◌, length, arith}
 use Rattle.std.proofs.lemmas.List.Folds.{flat_map-map}
 use Rattle.std.specs.List.{flat_map}
 use Rattle.vault.specs.Kinds.{nothing}
@@ -8,7 +8,7 @@ use Rattle.sheet.specs.Format.{header_bytes, header_fields, laid_down, row_bytes
 use Rattle.sheet.specs.Saving.{filled, header_for, record_of, sheet}
 use Rattle.sheet.proofs.Lengths.{length-header, length-records, length-unit}
 use Rattle.sheet.proofs.Writing.{parts-written}
-use Rattle.sheet.proofs.save.save.Goals as goal
+use Rattle.sheet.proofs.writer.save.Goals as goal
 
 pub returns : goal.returns
 unfolding sheet laid_down

@@ -100,12 +100,7 @@ fn rows_said(records: &[RowRecord], bounds: Bounds, mask: u32) -> Rows
 
 /// Whether something is wrong with a record in itself.
 #[tactic(auto, unfolding(crate::specs::Loading::records_are_faulty))]
-fn records_are_faulty(
-    units: &[LogicalUnit],
-    rows: &[RowRecord],
-    bounds: Bounds,
-    next: u32,
-) -> bool
+fn records_are_faulty(units: &[LogicalUnit], rows: &[RowRecord], bounds: Bounds, next: u32) -> bool
     ensures { result ≡ records_are_faulty bounds next units.now rows.now }
 {
     units_are_faulty(units, bounds, next) || rows_are_faulty(rows, bounds, next)
@@ -120,7 +115,9 @@ fn units_are_faulty(units: &[LogicalUnit], bounds: Bounds, next: u32) -> bool
 fn rows_are_faulty(rows: &[RowRecord], bounds: Bounds, next: u32) -> bool
     ensures { result ≡ list_any (λ entry. one_of (row_faults bounds next entry.0 entry.1)) (enumerate_from 0 rows.now) }
 {
-    rows.iter().enumerate().any(|(i, row)| row.is_faulty(i, bounds, next))
+    rows.iter()
+        .enumerate()
+        .any(|(i, row)| row.is_faulty(i, bounds, next))
 }
 
 /// The layout of these units and rows, where nothing is wrong between them.
@@ -136,7 +133,9 @@ fn in_relation(units: ArrayVec<LogicalUnit, 16>, rows: Rows, header: Header) -> 
         next: header.next,
         policy: header.policy,
     };
-    if !all_distinct(layout.serials().as_slice()) || rows_are_misplaced(&layout.units, &layout.rows) {
+    if !all_distinct(layout.serials().as_slice())
+        || rows_are_misplaced(&layout.units, &layout.rows)
+    {
         return None;
     }
     Some(layout)

@@ -1,7 +1,7 @@
 use Rattle.std.proofs.Common.{◌+◌, ◌*◌, arith}
 use Rattle.sheet.specs.Format.{row_at}
 use Rattle.sheet.proofs.Reading.{as-many, one-more}
-use Rattle.sheet.proofs.load.read_rows.Goals as goal
+use Rattle.sheet.proofs.reader.read_rows.Goals as goal
 
 -- src/load.rt
 pub push-requires : goal.push-requires
