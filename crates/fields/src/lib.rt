@@ -6,6 +6,8 @@ ghost use Rattle.std.specs.List.{AllByRecursion};
 ghost use Rattle.byteorder.specs.Endian.{big_bytes};
 ghost use Rattle.fields.specs.Fields.{bytes_of, number_at, size, written};
 
+pub mod laws;
+
 use byteorder::{BigEndian, ByteOrder};
 
 /// A number in so many bytes.
