@@ -65,12 +65,15 @@ abbrev pub rows_said : Bounds → ℕ → List RowRecord → List Row
 rows_said bounds mask records = map (λ entry. row_said bounds mask entry.0 entry.1) (enumerate_from 0 records)
 
 -- ---- the drive that a sheet describes, beside a vault
+abbrev pub rows_described : Bounds → List ℕ → List Row
+rows_described bounds s = rows_said bounds (header_of s).mask (rows_on s)
+
 abbrev pub drive_on : Bounds → Meaning → List ℕ → Drive
 drive_on bounds vault s = record {
   closed = false;
   numbering = bounds;
   units = units_on s;
-  rows = rows_said bounds (header_of s).mask (rows_on s);
+  rows = rows_described bounds s;
   next = (header_of s).next;
   policy = (header_of s).policy;
   vault = vault;
@@ -117,12 +120,15 @@ unit_faults bounds next u =
 
 abbrev pub row_faults : Bounds → ℕ → ℕ → RowRecord → List Bool
 row_faults bounds next i r =
+    -- neither the mark nor a unit's number, a bit above 5, a byte among the last six
     not (has_mark bounds r || valid bounds r.unit)
     ∷ nat_le (2 ^ 6) r.flags
     ∷ not (r.zeros == 0)
+    -- row 0 with a unit, the mark in a unit row, a free row whose flags are not blank
     ∷ (i == 0 && not (has_mark bounds r))
     ∷ (has_mark bounds r && has_unit_bit r)
     ∷ (has_mark bounds r && (not (i == 0) && not (r.flags == number_with (flag_bits blank false))))
+    -- a range or a key where there is none, and a range row without a good one
     ∷ ((has_mark bounds r || has_unit_bit r) && not (is_bare r))
     ∷ (not (has_mark bounds r || has_unit_bit r) && bad_serial next r.serial)
     ∷ []
@@ -137,10 +143,12 @@ records_are_faulty bounds next units records =
 abbrev pub kind_faults : List LogicalUnit → List Row → ℕ → Kind → List Bool
 kind_faults units rows i Free = []
 kind_faults units rows i Global = []
+-- no such unit, or another unit row of it
 kind_faults units rows i (UnitRow u) =
     not (exists u units)
     ∷ has_unit_row u (other_rows rows i)
     ∷ []
+-- no such unit, no unit row, past the unit, or a block that another range row has too
 kind_faults units rows i (RangeRow u start length serial) =
     not (exists u units)
     ∷ not (has_unit_row u rows)
@@ -164,7 +172,7 @@ abbrev pub sheet_checks : Bounds → List ℕ → List (Bool × Cause)
 sheet_checks bounds s =
     (header_is_faulty bounds (length s) (header_of s), SheetHeader)
     ∷ (records_are_faulty bounds (header_of s).next (units_on s) (rows_on s), SheetField)
-    ∷ (relations_are_faulty (units_on s) (rows_said bounds (header_of s).mask (rows_on s)), SheetRelation)
+    ∷ (relations_are_faulty (units_on s) (rows_described bounds s), SheetRelation)
     ∷ []
 
 abbrev pub sheet_refusal : Bounds → List ℕ → Option Cause
@@ -179,7 +187,7 @@ abbrev pub load_checks : Bounds → Meaning → List ℕ → List (Bool × Cause
 load_checks bounds vault s =
     (not (can_be_capacity vault.capacity), Closed)
     ∷ (sheet_checks bounds s
-    ++ (not (holds_just (serials (units_on s) (rows_said bounds (header_of s).mask (rows_on s))) vault), OtherKeys)
+    ++ (not (holds_just (serials (units_on s) (rows_described bounds s)) vault), OtherKeys)
     ∷ [])
 
 abbrev pub load_refusal : Bounds → Meaning → List ℕ → Option Cause
