@@ -25,7 +25,7 @@ fn told<T>(
     match outcome {
         Ok(value) => Ok(value),
         Err(error) => {
-            eprintln!(rt; "rehearse: line {line}: {path} cannot be {deed}: {error}")?;
+            eprintln!(rt; "rehearse: line {line}: `{path}` cannot be {deed}: {error}")?;
             Err(anyhow!("a file cannot be {deed}"))
         }
     }
