@@ -30,7 +30,7 @@ is_built (asks.Call call) = is_built_call call
 is_built asks.Unused = true
 is_built (asks.Controls unit block) = true
 is_built (asks.Access access unit start count) = false
-is_built (asks.ReadRow caller row) = false
+is_built (asks.ReadRow caller row) = true
 
 -- a step that is shown by a run asks for no proof
 abbrev pub wanted : Shown → Type 0 → Type 0

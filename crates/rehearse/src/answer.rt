@@ -1,11 +1,89 @@
-use rules::ask::Reply;
-use rules::cause::Asked;
-use steps::shown::ShownReply;
+use crate::files::write_sheet;
+use rules::cause::Cause;
+use script::{Call, Line, Query};
+use std::fmt;
+use steps::shown::{ShownRefusal, ShownReply};
+use steps::{asked, make};
+use table::calls::Calls;
 
-/// A reply as it is printed: every call of a script comes in as a command.
-pub fn shown(reply: Reply) -> ShownReply {
-    ShownReply {
-        reply,
-        asked: Some(Asked::Command),
+/// What a line answers, as it is printed.
+#[derive(Clone, Copy)]
+pub enum Answer {
+    Replied(ShownReply),
+    Described(Descriptor),
+    /// How many bytes the sheet has.
+    Saved(u32),
+    /// Description and saving are refused by numbers alone.
+    Refused(Cause),
+}
+
+impl Answer {
+    /// Makes the call of a line, on a drive whose rows without a unit have this mark.
+    pub fn to<C: Calls>(
+        rt: &HostRuntime,
+        table: &mut C,
+        line: &Line,
+        mark: u32,
+    ) -> anyhow::Result<Answer> {
+        match line.call {
+            Call::Query(query) => Ok(replied(table, query, mark)),
+            Call::Describe => Ok(described(table)),
+            Call::Save { path } => saved(rt, table, line.number, path),
+        }
+    }
+}
+
+fn replied<C: Calls>(table: &mut C, query: Query, mark: u32) -> Answer {
+    Answer::Replied(ShownReply {
+        ask: asked(query),
+        reply: make(table, query),
+        mark,
+        with_status: true,
+    })
+}
+
+fn described<C: Calls>(table: &C) -> Answer {
+    let mut bytes = [0; 20];
+    match table.describe(&mut bytes) {
+        Ok(()) => Answer::Described(Descriptor(bytes)),
+        Err(cause) => Answer::Refused(cause),
+    }
+}
+
+fn saved<C: Calls>(rt: &HostRuntime, table: &C, line: usize, path: &str) -> anyhow::Result<Answer> {
+    // As long as a sheet can be, with sixteen units.
+    let mut sheet = [0; 832];
+    match table.save(&mut sheet) {
+        Ok(total) => {
+            write_sheet(rt, line, path, &sheet[0..total as usize])?;
+            Ok(Answer::Saved(total))
+        }
+        Err(cause) => Ok(Answer::Refused(cause)),
+    }
+}
+
+impl fmt::Display for Answer {
+    fn fmt<W: fmt::Write>(&self, f: &mut fmt::Formatter<W>) -> fmt::Result {
+        match *self {
+            Answer::Replied(reply) => reply.fmt(f),
+            Answer::Described(descriptor) => descriptor.fmt(f),
+            Answer::Saved(total) => write!(f, "{total} bytes"),
+            Answer::Refused(cause) => ShownRefusal { cause, asked: None }.fmt(f),
+        }
+    }
+}
+
+/// The bytes of a descriptor, with a space between.
+#[derive(Clone, Copy)]
+pub struct Descriptor([u8; 20]);
+
+impl fmt::Display for Descriptor {
+    fn fmt<W: fmt::Write>(&self, f: &mut fmt::Formatter<W>) -> fmt::Result {
+        let mut gap = "";
+        for byte in self.0 {
+            write!(f, "{gap}{byte:02x}")?;
+            gap = " ";
+        }
+        Ok(())
     }
 }

@@ -1,10 +1,10 @@
-use crate::answer::shown;
-use crate::shown_row::ShownRow;
-use rules::ask::Told;
+use rules::ask::{Ask, Told};
+use rules::numbering::Bounds;
 use rules::row::{Kind, Row};
 use rules::unit::LogicalUnit;
 use std::alloc::{AllocError, Global};
 use std::fmt;
+use steps::shown::{ShownReply, ShownRow};
 use table::calls::Calls;
 
 /// The keys of the table: the units' in rising order, then the range rows'.
@@ -19,6 +19,17 @@ pub fn keys<C: Calls>(heap: Global, table: &C) -> Result<Vec<u32>, AllocError> {
         }
     }
     Ok(all)
+}
+
+/// The keys that the vault holds: the table's, and then those that it was given. A closed table has none of its own.
+fn held<C: Calls>(heap: Global, table: &C, given: &[u32]) -> Result<Vec<u32>, AllocError> {
+    let mut held = Vec::new(heap);
+    for serial in keys(heap, table)?.iter().chain(given) {
+        if table.holds(*serial) && !held.contains(serial) {
+            held.push(*serial)?;
+        }
+    }
+    Ok(held)
 }
 
 /// Serials with a comma between, or `none`: a form of its own, which no derive knows.
@@ -41,21 +52,26 @@ impl fmt::Display for Serials<'_> {
 }
 
 /// Prints how the rehearsal leaves the drive: units, rows, keys held, keys eradicated in the order in which they went,
-/// and the unused count.
-pub fn report<C: Calls>(rt: &HostRuntime, table: &C, gone: &[u32]) -> anyhow::Result<()> {
+/// and the unused count. The vault was given these serials.
+pub fn report<C: Calls>(
+    rt: &HostRuntime,
+    table: &C,
+    bounds: Bounds,
+    given: &[u32],
+    gone: &[u32],
+) -> anyhow::Result<()> {
     println!(rt; "\nclosing report")?;
     units(rt, table.units())?;
-    rows(rt, table.rows())?;
-    let all = keys(rt.alloc(), table)?;
-    let mut held = Vec::new(rt.alloc());
-    for serial in all {
-        if table.holds(serial) {
-            held.push(serial)?;
-        }
-    }
+    rows(rt, table.rows(), bounds)?;
+    let held = held(rt.alloc(), table, given)?;
     let held = Serials(held.as_slice());
     let gone = Serials(gone);
-    let unused = shown(table.unused().map(Told::Unused));
+    let unused = ShownReply {
+        ask: Ask::Unused,
+        reply: table.unused().map(Told::Unused),
+        mark: bounds.mark,
+        with_status: true,
+    };
     println!(rt; "  keys held: {held}\n  keys eradicated, in order: {gone}\n  unused: {unused}")?;
     Ok(())
 }
@@ -75,10 +91,15 @@ fn units(rt: &HostRuntime, units: &[LogicalUnit]) -> anyhow::Result<()> {
 }
 
 /// The rows that are not free, each as a row is read.
-fn rows(rt: &HostRuntime, rows: &[Row]) -> anyhow::Result<()> {
+fn rows(rt: &HostRuntime, rows: &[Row], bounds: Bounds) -> anyhow::Result<()> {
     println!(rt; "  rows:")?;
     for (number, row) in rows.iter().enumerate().filter(|(_, row)| !is_free(row)) {
-        println!(rt; "    row {number}: {}", ShownRow(*row))?;
+        let row = ShownRow {
+            fields: row.fields(bounds),
+            number,
+            mark: bounds.mark,
+        };
+        println!(rt; "    row {number}: {row}")?;
     }
     let free = rows.iter().filter(|row| is_free(row)).count();
     println!(rt; "    free: {free}")?;

@@ -3,9 +3,10 @@
 
 mod answer;
 mod closing;
+mod files;
 mod input;
 mod rehearsal;
-mod shown_row;
+mod vaults;
 
 use anyhow::anyhow;
 use input::read_script;

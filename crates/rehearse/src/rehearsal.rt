@@ -1,13 +1,15 @@
-use crate::answer::shown;
+use crate::answer::Answer;
 use crate::closing::{keys, report};
+use crate::vaults::{Beginning, file_with, write_registers};
+use rules::cause::Cause;
 use rules::numbering::{Numbering, Nvme, Scsi};
 use script::{Line, NumberingKind, Script, VaultKind};
-use steps::make;
+use steps::shown::ShownRefusal;
 use table::calls::Calls;
+use table::loading::load_check;
 use table::state::{Table, fresh_check};
 use vault::Vault;
 use vault::chip::KeyChip;
-use vault::file::KeyFile;
 
 /// Rehearses the script over a vault of the kind that it names. A match picks the types, so each kind is compiled by itself.
 pub fn perform(rt: &HostRuntime, script: &Script) -> anyhow::Result<()> {
@@ -18,15 +20,22 @@ pub fn perform(rt: &HostRuntime, script: &Script) -> anyhow::Result<()> {
 }
 
 fn over_vault<N: Numbering>(rt: &HostRuntime, script: &Script) -> anyhow::Result<()> {
+    let beginning = Beginning::of(rt, script, N::BOUNDS)?;
+    let serials = beginning.serials.as_slice();
     let capacity = script.layout.capacity;
     match script.layout.vault {
-        VaultKind::File => rehearse::<_, N>(rt, script, &mut KeyFile::new(capacity)),
+        VaultKind::File => {
+            let mut file = file_with(capacity, serials);
+            rehearse::<_, N>(rt, script, &beginning, &mut file)
+        }
         VaultKind::Chip => {
             // More than 64 registers are unfit, however many there are, so 65 stand for any such number.
             let mut registers = [0; 65];
             // At most 65, so the cast cannot fail.
             let count = capacity.min(65) as usize;
-            rehearse::<_, N>(rt, script, &mut KeyChip::new(&mut registers[0..count]))
+            let chip = &mut registers[0..count];
+            write_registers(chip, serials);
+            rehearse::<_, N>(rt, script, &beginning, &mut KeyChip::new(chip))
         }
     }
 }
@@ -35,20 +44,48 @@ fn over_vault<N: Numbering>(rt: &HostRuntime, script: &Script) -> anyhow::Result
 fn rehearse<V: Vault, N: Numbering>(
     rt: &HostRuntime,
     script: &Script,
+    beginning: &Beginning,
     vault: &mut V,
 ) -> anyhow::Result<()> {
-    let check = fresh_check(vault);
-    let mut table = Table::<_, N>::fresh(vault);
+    let (check, mut table) = laid_out::<V, N>(vault, beginning);
     let words = script.layout_words.as_str();
     match check {
         Ok(()) => println!(rt; "{words} => open")?,
-        Err(cause) => println!(rt; "{words} => closed, {}", shown(Err(cause)))?,
+        Err(cause) => {
+            println!(rt;
+                "{words} => closed, {}",
+                ShownRefusal { cause, asked: None }
+            )?
+        }
     }
     let mut gone = Vec::new(rt.alloc());
     for line in &script.lines {
-        call(rt, &mut table, line, &mut gone)?;
+        call(rt, &mut table, line, N::BOUNDS.mark, &mut gone)?;
     }
-    report(rt, &table, gone.as_slice())
+    report(
+        rt,
+        &table,
+        N::BOUNDS,
+        beginning.serials.as_slice(),
+        gone.as_slice(),
+    )
+}
+
+/// The table, and whether it is open.
+fn laid_out<'v, V: Vault, N: Numbering>(
+    vault: &'v mut V,
+    beginning: &Beginning,
+) -> (Result<(), Cause>, Table<'v, V, N>) {
+    match &beginning.sheet {
+        None => {
+            let check = fresh_check(vault);
+            (check, Table::fresh(vault))
+        }
+        Some(sheet) => {
+            let check = load_check::<V, N>(vault, sheet.as_slice());
+            (check, Table::load(vault, sheet.as_slice()))
+        }
+    }
 }
 
 /// Makes the call of one line, prints its answer, and notes the keys that it eradicated.
@@ -56,12 +93,13 @@ fn call<C: Calls>(
     rt: &HostRuntime,
     table: &mut C,
     line: &Line,
+    mark: u32,
     gone: &mut Vec<u32>,
 ) -> anyhow::Result<()> {
     let before = keys(rt.alloc(), table)?;
-    let reply = shown(make(table, line.call));
+    let answer = Answer::to(rt, table, line, mark)?;
     let words = line.words.as_str();
-    println!(rt; "{words} => {reply}")?;
+    println!(rt; "{words} => {answer}")?;
     for serial in before {
         if !table.holds(serial) {
             gone.push(serial)?;

@@ -49,16 +49,18 @@ fn go_through<N: Numbering>(
     let mut on_file = Table::<_, N>::fresh(&mut file);
     let mut on_chip = Table::<_, N>::fresh(&mut chip);
     for step in stages.iter().flatten() {
-        show_step(rt, &mut on_file, &mut on_chip, *step, tally)?;
+        show_step(rt, &mut on_file, &mut on_chip, N::BOUNDS.mark, *step, tally)?;
     }
     Ok(())
 }
 
-/// Prints a step and how it is shown; one that is shown by a run is made on both tables.
+/// Prints a step and how it is shown; one that is shown by a run is made on both tables. The mark is that of their rows without a
+/// unit.
 fn show_step<F: Calls, C: Calls>(
     rt: &HostRuntime,
     on_file: &mut F,
     on_chip: &mut C,
+    mark: u32,
     step: Step,
     tally: &mut Tally,
 ) -> anyhow::Result<()> {
@@ -82,8 +84,10 @@ fn show_step<F: Calls, C: Calls>(
     let ask = Words(step.ask);
     // The sequence names a refusal by its number alone.
     let reply = ShownReply {
+        ask: step.ask,
         reply: step.reply,
-        asked: None,
+        mark,
+        with_status: false,
     };
     println!(rt; "{ask} => {reply}  ({how})")?;
     Ok(())

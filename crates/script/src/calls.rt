@@ -55,9 +55,10 @@ pub struct Line<'a> {
     pub call: Call<'a>,
 }
 
-/// A whole script that was read.
+/// A whole script that was read. The line that lays the table out is counted from 1, as the others.
 #[derive(Drop)]
 pub struct Script<'a> {
+    pub layout_number: usize,
     pub layout_words: String,
     pub layout: Layout<'a>,
     pub lines: Vec<Line<'a>>,

@@ -46,6 +46,7 @@ fn read_line<'a>(
     match script {
         None => {
             *script = Some(Script {
+                layout_number: number,
                 layout_words: joined,
                 layout: layout(heap, first, words)?,
                 lines: Vec::new(heap),

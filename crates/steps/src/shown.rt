@@ -1,8 +1,8 @@
 //! How the subject's words are printed.
-use rules::ask::{Reply, Told};
-use rules::call::Accepted;
+use rules::ask::{Ask, Reply, Told};
+use rules::call::{Accepted, Call};
 use rules::cause::{Asked, Cause, Status};
-use rules::row::{Flags, Kind, RowFields, Standing};
+use rules::row::{Flags, RowFields, Standing};
 use rules::unit::Control;
 use std::fmt;
 
@@ -35,17 +35,6 @@ impl fmt::Display for Shown<Standing> {
     }
 }
 
-impl fmt::Display for Shown<Kind> {
-    fn fmt<W: fmt::Write>(&self, f: &mut fmt::Formatter<W>) -> fmt::Result {
-        f.write_str(match self.0 {
-            Kind::Free => "free row",
-            Kind::Global => "global row",
-            Kind::UnitRow { .. } => "unit row",
-            Kind::RangeRow { .. } => "range row",
-        })
-    }
-}
-
 /// Each flag that is true, after a space; nothing where none is.
 impl fmt::Display for Shown<Flags> {
     fn fmt<W: fmt::Write>(&self, f: &mut fmt::Formatter<W>) -> fmt::Result {
@@ -72,32 +61,6 @@ impl fmt::Display for Shown<Control> {
     }
 }
 
-/// A row without a unit has the mark.
-impl fmt::Display for Shown<RowFields> {
-    fn fmt<W: fmt::Write>(&self, f: &mut fmt::Formatter<W>) -> fmt::Result {
-        let RowFields {
-            unit,
-            serial,
-            start,
-            length,
-            flags,
-            is_unit_row,
-            standing,
-        } = self.0;
-        let flags = Shown(flags);
-        let standing = Shown(standing);
-        let kind = if is_unit_row {
-            "unit row"
-        } else {
-            "no unit row"
-        };
-        write!(
-            f,
-            "unit {unit}, serial {serial}, start {start}, length {length}, {kind}, {standing}, flags{flags}"
-        )
-    }
-}
-
 impl fmt::Display for Shown<Accepted> {
     fn fmt<W: fmt::Write>(&self, f: &mut fmt::Formatter<W>) -> fmt::Result {
         match self.0 {
@@ -109,31 +72,96 @@ impl fmt::Display for Shown<Accepted> {
     }
 }
 
-impl fmt::Display for Shown<Told> {
+/// The number, or `none`.
+impl fmt::Display for Shown<Option<u32>> {
     fn fmt<W: fmt::Write>(&self, f: &mut fmt::Formatter<W>) -> fmt::Result {
         match self.0 {
-            Told::Answered(accepted) => Shown(accepted).fmt(f),
-            Told::Unused(count) => write!(f, "{count}"),
-            Told::Controls(control) => Shown(control).fmt(f),
-            Told::Granted => f.write_str("granted"),
-            Told::Row(fields) => Shown(fields).fmt(f),
+            Some(number) => write!(f, "{number}"),
+            None => f.write_str("none"),
         }
     }
 }
 
-/// A reply as it is printed. A refusal has its status too where it is said how the call came in.
+/// A row as it is read.
+// The fields alone leave open which unit number is the mark, and whether a row without a unit is row 0.
 #[derive(Clone, Copy)]
-pub struct ShownReply {
-    pub reply: Reply,
+pub struct ShownRow {
+    pub fields: RowFields,
+    pub number: usize,
+    pub mark: u32,
+}
+
+impl ShownRow {
+    fn kind(self) -> &'static str {
+        if self.fields.unit == self.mark {
+            if self.number == 0 {
+                "global row"
+            } else {
+                "free row"
+            }
+        } else if self.fields.is_unit_row {
+            "unit row"
+        } else {
+            "range row"
+        }
+    }
+}
+
+impl fmt::Display for ShownRow {
+    fn fmt<W: fmt::Write>(&self, f: &mut fmt::Formatter<W>) -> fmt::Result {
+        let RowFields {
+            unit,
+            serial,
+            start,
+            length,
+            flags,
+            standing,
+            ..
+        } = self.fields;
+        let unit = Shown((unit != self.mark).then_some(unit));
+        let key = Shown((serial != 0).then_some(serial));
+        let flags = FlagsOrNone(flags);
+        let kind = self.kind();
+        let standing = Shown(standing);
+        write!(
+            f,
+            "unit {unit}, start {start}, length {length}, key {key}, flags{flags}, {kind}, {standing}"
+        )
+    }
+}
+
+/// Each flag that is true, after a space, or ` none`.
+#[derive(Clone, Copy)]
+struct FlagsOrNone(Flags);
+
+const NO_FLAGS: Flags = Flags {
+    read_lock_enabled: false,
+    write_lock_enabled: false,
+    read_locked: false,
+    write_locked: false,
+    lock_on_reset: false,
+};
+
+impl fmt::Display for FlagsOrNone {
+    fn fmt<W: fmt::Write>(&self, f: &mut fmt::Formatter<W>) -> fmt::Result {
+        if self.0 == NO_FLAGS {
+            f.write_str(" none")
+        } else {
+            Shown(self.0).fmt(f)
+        }
+    }
+}
+
+/// A refusal as it is printed, with its status where it is said how the call came in.
+#[derive(Clone, Copy)]
+pub struct ShownRefusal {
+    pub cause: Cause,
     pub asked: Option<Asked>,
 }
 
-impl fmt::Display for ShownReply {
+impl fmt::Display for ShownRefusal {
     fn fmt<W: fmt::Write>(&self, f: &mut fmt::Formatter<W>) -> fmt::Result {
-        let cause = match self.reply {
-            Ok(told) => return Shown(told).fmt(f),
-            Err(cause) => cause,
-        };
+        let cause = self.cause;
         write!(f, "refused {}", cause.number())?;
         if let Some(asked) = self.asked {
             if let Some(status) = cause.status(asked) {
@@ -144,5 +172,55 @@ impl fmt::Display for ShownReply {
             Cause::BlockLocked { block, row } => write!(f, ", block {block}, row {row}"),
             _ => Ok(()),
         }
+    }
+}
+
+/// The reply to what was asked of a drive whose rows without a unit have this mark.
+#[derive(Clone, Copy)]
+pub struct ShownReply {
+    pub ask: Ask,
+    pub reply: Reply,
+    pub mark: u32,
+    pub with_status: bool,
+}
+
+impl ShownReply {
+    fn row_number(self) -> usize {
+        match self.ask {
+            Ask::ReadRow { row, .. } => row as usize,
+            _ => 0,
+        }
+    }
+}
+
+impl fmt::Display for ShownReply {
+    fn fmt<W: fmt::Write>(&self, f: &mut fmt::Formatter<W>) -> fmt::Result {
+        match self.reply {
+            Ok(Told::Answered(accepted)) => Shown(accepted).fmt(f),
+            Ok(Told::Unused(count)) => write!(f, "{count}"),
+            Ok(Told::Controls(control)) => Shown(control).fmt(f),
+            Ok(Told::Granted) => f.write_str("granted"),
+            Ok(Told::Row(fields)) => ShownRow {
+                fields,
+                number: self.row_number(),
+                mark: self.mark,
+            }.fmt(f),
+            Err(cause) => ShownRefusal {
+                cause,
+                asked: self.with_status.then_some(way_of(self.ask)),
+            }.fmt(f),
+        }
+    }
+}
+
+/// How what is asked comes in: a method comes in a session of its caller.
+fn way_of(ask: Ask) -> Asked {
+    match ask {
+        Ask::ReadRow { .. } => Asked::Method,
+        Ask::Call {
+            call: Call::Create { .. } | Call::Delete { .. } | Call::Format { .. },
+        } => Asked::Command,
+        Ask::Call { .. } => Asked::Method,
+        Ask::Unused | Ask::Controls { .. } | Ask::Access { .. } => Asked::Command,
     }
 }
