@@ -1,8 +1,10 @@
-//! The rules against examples: vaults, tables, and the reading of scripts.
+//! The rules against examples: vaults, tables, sheets, and the reading of scripts.
 #![tactic(auto)]
 
 #[cfg(test)]
 mod scripts;
+#[cfg(test)]
+mod sheets;
 #[cfg(test)]
 mod tables;
 #[cfg(test)]
