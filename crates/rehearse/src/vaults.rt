@@ -39,7 +39,7 @@ impl Beginning {
 
 /// The serials of a sheet's keys, the units' and then the range rows'; none where the sheet is faulty.
 fn own_serials(heap: Global, sheet: &[u8], bounds: Bounds) -> Result<Vec<u32>, AllocError> {
-    let Ok(layout) = sheet::load::load(sheet, bounds) else {
+    let Ok(layout) = sheet::load(sheet, bounds) else {
         return Ok(Vec::new(heap));
     };
     let serials = layout.serials();
