@@ -204,11 +204,13 @@ impl fmt::Display for ShownReply {
                 fields,
                 number: self.row_number(),
                 mark: self.mark,
-            }.fmt(f),
+            }
+            .fmt(f),
             Err(cause) => ShownRefusal {
                 cause,
                 asked: self.with_status.then_some(way_of(self.ask)),
-            }.fmt(f),
+            }
+            .fmt(f),
         }
     }
 }
