@@ -14,7 +14,8 @@ use rehearsal::perform;
 use script::parse;
 use std::process::ExitCode;
 
-// What is wrong with a script has been told by now, in one message: the error only decides the status.
+// What is wrong with a script or a file has been told by now, in one message: the error only decides the status. A lack of memory
+// and an output that cannot be written end the program without one.
 fn main(rt: HostRuntime) -> ExitCode {
     match rehearse(&rt) {
         Ok(()) => ExitCode::SUCCESS,
