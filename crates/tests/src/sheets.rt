@@ -219,7 +219,7 @@ const MAX: u64 = 0xFFFF_FFFF_FFFF_FFFF;
 
 // The same for records against each other.
 const RELATIONS: [Case; 20] = [
-    (&[(UNIT_7, 4, 3)], 27),
+    (&[(UNIT_7, 4, 3), (UNIT_7 + 8, 8, 100)], 27),
     (&[(UNIT_2, 4, 5)], 27),
     (&[(UNIT_2 + 4, 4, 5)], 27),
     (&[(UNIT_2 + 4, 4, 11)], 27),
@@ -256,7 +256,7 @@ const ORDER: [Case; 6] = [
 const OF_NVME: [Case; 3] = [
     (&[(2, 2, 2)], 25),
     (&[(UNIT_2, 4, 0)], 26),
-    (&[(ROW_16, 4, 0xFFFF_FFFF)], 26),
+    (&[(ROW_16, 4, 0xFFFF_FFFF), (ROW_16 + 24, 2, 0x30)], 26),
 ];
 
 const OF_SCSI: [Case; 3] = [
