@@ -373,6 +373,17 @@ fn the_vault_holds_just_the_serials(rt: HostRuntime) {
     }
 }
 
+// A blank table is billions of calls away from its last serial; a sheet is not.
+#[test]
+fn serials_run_out(rt: HostRuntime) {
+    let sheet = changed(NVME, &[(20, 4, 0xFFFF_FFFE)]);
+    let mut file = file_with(15, &KEYS);
+    let mut table = Table::<_, Nvme>::load(&mut file, start(&rt, &sheet, TOTAL));
+    assert_eq!(rt; numbered(table.create(1, 1)), Ok(()));
+    assert!(rt; table.holds(LARGEST));
+    assert_eq!(rt; numbered(table.create(4, 1)), Err(13));
+}
+
 // The least and the largest numbers that a sheet may have, and ranges that just meet, or end where the unit ends.
 const TAKEN: [&[Field]; 20] = [
     &[],
