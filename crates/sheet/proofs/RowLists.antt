@@ -21,20 +21,24 @@ module _ (bounds : Bounds) (next mask : ℕ) where
   faulty_from n records = list_any (λ entry. one_of (row_faults bounds next entry.0 entry.1)) (enumerate_from n records)
 
   -- ---- from records with no faults
+  first-and-others : (n : ℕ) (r : RowRecord) (rs : List RowRecord) → faulty_from n (r ∷ rs) ≡ false
+      → (one_of (row_faults bounds next n r) ≡ false) × (faulty_from (n + 1) rs ≡ false)
+  first-and-others n r rs none = or_parts (one_of (row_faults bounds next n r)) _ none
+
   pub records-back : (n : ℕ) (records : List RowRecord) → faulty_from n records ≡ false → map (record_of bounds) (said_from n records) ≡ records
   records-back n [] none = refl
   records-back n (r ∷ rs) none =
-      let p = or_parts (one_of (row_faults bounds next n r)) _ none in
+      let p = first-and-others n r rs none in
       ap (λ s. s ∷ map (record_of bounds) (said_from (n + 1) rs)) (record-back bounds next n r p.0 mask) ∙ ap (λ ss. r ∷ ss) (records-back (n + 1) rs p.1)
 
   pub rows-in-order : (n : ℕ) (records : List RowRecord) → faulty_from n records ≡ false
       → (i k : ℕ) → n + k ≡ i → k < length records → RowInOrder bounds next i (row k (said_from n records)).kind (row k (said_from n records)).flags
   rows-in-order n [] none i k e l = absurd (let b : ⊥ = omega arith in b)
   rows-in-order n (r ∷ rs) none i zero e l =
-      let p = or_parts (one_of (row_faults bounds next n r)) _ none in
+      let p = first-and-others n r rs none in
       subst (λ m. RowInOrder bounds next m (kind_said bounds n r) (flags_of r.flags)) (omega arith) (row-in-order bounds next n r p.0)
   rows-in-order n (r ∷ rs) none i (suc k) e l =
-      let p = or_parts (one_of (row_faults bounds next n r)) _ none in
+      let p = first-and-others n r rs none in
       rows-in-order (n + 1) rs p.1 i k (omega arith) (omega arith)
 
   -- ---- from rows in order
