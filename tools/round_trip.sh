@@ -9,7 +9,7 @@ crate=$tools/../crates/rehearse
 program=$(realpath "${1:-$crate/out/rehearse}")
 room=$(mktemp -d)
 trap 'rm -rf "$room"' EXIT
-cp "$crate/data/commissioning.txt" "$crate/stdout" "$tools/round_trip/"* "$room"
+cp "$crate/data/commissioning.txt" "$crate/stdout" "$tools/round_trip/"* "$tools/../examples/"* "$room"
 cd "$room"
 mv stdout commissioning.stdout
 
@@ -38,6 +38,10 @@ same() {
 printf "$(sed 's/#.*//; s/[^0-9a-f]//g; s/../\\x&/g' cut.hex | tr -d '\n')" >cut.sheet
 head -c -1 cut.sheet >short.sheet
 
+# an office's day, one script after the other
+for script in 1_commissioning 2_recut 3_checker 4_denied 5_close; do
+    prints "$script"
+done
 prints commissioning
 prints next_day
 same commissioned.sheet next_day.sheet

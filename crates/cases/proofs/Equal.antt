@@ -1,9 +1,8 @@
 -- A derived `==` of an enum decides whether two values are one, where `==` does so at each variant's fields.
-use Rattle.std.proofs.Common.{◌≡◌, ℕ, Bool, true, false, cond, ◌&&◌, List, [], ◌∷◌, Some, None, Ok, Err, Option, Decides, sym, refl, ap, inl, inr, rules}
+use Rattle.std.proofs.Common.{◌≡◌, ℕ, Bool, true, false, cond, ◌&&◌, List, [], ◌∷◌, Ok, Err, Decides, sym, refl, ap, inl, inr, rules}
 use Rattle.std.proofs.lemmas.Bool.Decides.{Decides-and, Decides-eqb, Decides-like}
 use Rattle.std.proofs.lemmas.Bool.{true≢false}
 use Rattle.std.specs.Cmp.{booleans_Decides}
-use Rattle.std.specs.Option.{option_eq}
 use Rattle.std.specs.Result.{result_eq}
 use denote.Enum.Bare.{same_true, true_same}
 use denote.Enum.Compared.{Each, by}
@@ -101,10 +100,9 @@ same-told a b = one-value told.enum _ (
   ((λ x y. last (Decides-eqb x.0 y.0)), ((λ x y. last (same-control x.0 y.0)), ((λ x y. last (same-fields x.0 y.0)), tt))),
 ) a b
 
--- ---- a reply that may not have come
-pub same-reply : (came : Option Reply) (listed : Reply) → Decides (option_eq (result_eq (told_eq.eq-value).it (cause_eq.eq-value).it) came (Some listed)) (came ≡ Some listed)
-same-reply None listed = (λ e. absurd (true≢false (sym e)), λ e. cc)
-same-reply (Some (Ok a)) (Ok b) = Decides-like ((told_eq.eq-value).it a b) (ap (λ t. Some (Ok t))) (λ e. cc) (same-told a b)
-same-reply (Some (Ok a)) (Err b) = (λ e. absurd (true≢false (sym e)), λ e. cc)
-same-reply (Some (Err a)) (Ok b) = (λ e. absurd (true≢false (sym e)), λ e. cc)
-same-reply (Some (Err a)) (Err b) = Decides-like ((cause_eq.eq-value).it a b) (ap (λ t. Some (Err t))) (λ e. cc) (same-cause a b)
+-- ---- replies
+pub same-reply : (came listed : Reply) → Decides (result_eq (told_eq.eq-value).it (cause_eq.eq-value).it came listed) (came ≡ listed)
+same-reply (Ok a) (Ok b) = Decides-like ((told_eq.eq-value).it a b) (ap Ok) (λ e. cc) (same-told a b)
+same-reply (Ok a) (Err b) = (λ e. absurd (true≢false (sym e)), λ e. cc)
+same-reply (Err a) (Ok b) = (λ e. absurd (true≢false (sym e)), λ e. cc)
+same-reply (Err a) (Err b) = Decides-like ((cause_eq.eq-value).it a b) (ap Err) (λ e. cc) (same-cause a b)

@@ -1,38 +1,13 @@
 -- What the definitions of the calls give, step by step.
-use Rattle.std.specs.Prelude.{◌≡◌, Bool, true, false, List, [], ◌∷◌}
+use Rattle.std.specs.Prelude.{◌≡◌, List, [], ◌∷◌}
 use Rattle.std.specs.List.{fold}
-use Rattle.rules.specs.declared.ask.Ask.{Ask}
-use Rattle.rules.specs.declared.ask.Ask.TheVariants as asks
-use Rattle.rules.specs.declared.call.Call.{Call}
-use Rattle.rules.specs.declared.call.Call.TheVariants.{Assign, Deassign, SetRange, SetLocks, GenKey, Erase, Reactivate, Create, Delete, Format, Reset}
 use Rattle.rules.specs.Asks.{reply_to, left_by}
 use Rattle.rules.specs.Drive.{Drive}
 use Rattle.cases.specs.declared.sequence.Shown.{Shown}
 use Rattle.cases.specs.declared.sequence.Shown.TheVariants.{ByProof, ByRun}
 use Rattle.cases.specs.declared.sequence.Step.{Step}
 
--- the calls and questions that there is code for
-abbrev pub is_built_call : Call → Bool
-is_built_call (Assign caller n start length standing) = false
-is_built_call (Deassign caller r keep) = false
-is_built_call (SetRange caller r start length) = false
-is_built_call (SetLocks caller r flags) = false
-is_built_call (GenKey caller r) = false
-is_built_call (Erase caller r) = false
-is_built_call (Reactivate caller selection policy) = false
-is_built_call (Create n blocks) = true
-is_built_call (Delete n) = true
-is_built_call (Format n) = false
-is_built_call (Reset caller) = false
-
-abbrev pub is_built : Ask → Bool
-is_built (asks.Call call) = is_built_call call
-is_built asks.Unused = true
-is_built (asks.Controls unit block) = true
-is_built (asks.Access access unit start count) = false
-is_built (asks.ReadRow caller row) = true
-
--- a step that is shown by a run asks for no proof
+-- a step that is only run asks for no proof
 abbrev pub wanted : Shown → Type 0 → Type 0
 wanted ByProof fact = fact
 wanted ByRun fact = Unit {0}

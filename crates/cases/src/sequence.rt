@@ -5,13 +5,14 @@ ghost use Rattle.cases.specs.Sequence.{Given, Stage, AllGiven};
 ghost use Rattle.cases.specs.Drives.{nvme_start, after_units_made, after_ranges_cut, after_ranges_moved, after_rows_given_up, after_keys_renewed, after_range_locked, scsi_start};
 
 use rules::access::Access;
-use rules::ask::{Ask, Reply, Told};
-use rules::call::{Accepted, Call};
+use rules::ask::{Ask, Question, Reply, Told};
+use rules::call::{ADMINS, Accepted, Call};
 use rules::cause::Cause;
 use rules::row::{Flags, RowFields, Standing};
 use rules::unit::Control;
 
-/// How a reply is shown to be right: it follows from the definitions, or the program makes the call and compares.
+/// How a reply is shown to be right: the program makes the call and compares; and where it is marked so, it follows from the
+/// definitions by proof.
 #[derive(Clone, Copy)]
 pub enum Shown {
     ByProof,
@@ -26,8 +27,6 @@ pub struct Step {
     pub reply: Reply,
     pub shown: Shown,
 }
-
-const ADMINS: u32 = 0;
 
 const BLANK: Flags = Flags::BLANK;
 
@@ -61,13 +60,13 @@ macro_rules! call {
 }
 
 macro_rules! ask {
-    (unused()) => { Ask::Unused };
-    (controls($unit:expr, $block:expr)) => { Ask::Controls { unit: $unit, block: $block } };
+    (unused()) => { Ask::Question(Question::Unused) };
+    (controls($unit:expr, $block:expr)) => { Ask::Question(Question::Controls { unit: $unit, block: $block }) };
     (read($unit:expr, $first:expr, $count:expr)) => {
-        Ask::Access { access: Access::Read, unit: $unit, first: $first, count: $count }
+        Ask::Question(Question::Access { access: Access::Read, unit: $unit, first: $first, count: $count })
     };
-    (read_row($row:expr)) => { Ask::ReadRow { caller: ADMINS, row: $row } };
-    ($call:ident $with:tt) => { Ask::Call { call: call!($call $with) } };
+    (read_row($row:expr)) => { Ask::Question(Question::ReadRow { caller: ADMINS, row: $row }) };
+    ($call:ident $with:tt) => { Ask::Call(call!($call $with)) };
 }
 
 macro_rules! reply {

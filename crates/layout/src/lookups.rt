@@ -1,5 +1,8 @@
-ghost use Rattle.std.specs.Prelude.{◌≡◌, ◌+◌, ◌<◌, ◌≤◌, ◌++◌, length, map};
-ghost use Rattle.rules.specs.Rows.{row, locked, controlling_row};
+ghost use Rattle.std.specs.Prelude.{◌≡◌, ℕ, ◌+◌, ◌<◌, ◌≤◌, ◌++◌, ◌∷◌, cond, length, map};
+ghost use Rattle.std.specs.List.{list_any};
+ghost use Rattle.rules.specs.declared.row.Sought.TheVariants.{RangeRowOf};
+ghost use Rattle.rules.specs.Methods.{ends_past};
+ghost use Rattle.rules.specs.Rows.{all_rows, controlling_row, is_range_row, locked, row, row_under, unit_or};
 ghost use Rattle.rules.specs.Questions.{control_of};
 ghost use Rattle.rules.specs.Sound.{serials, serial_of, row_key};
 
@@ -16,15 +19,49 @@ impl Layout {
         self.rows.get(0).flags.is_locked()
     }
 
-    /// The range row of the unit that covers the block, else its unit row, else row 0.
-    fn controlling_row(&self, unit: u32, block: u64) -> usize
+    /// Whether a range ends past the unit.
+    pub fn ends_past(&self, unit: u32, start: u64, length: u64) -> bool
+        ensures { result ≡ ends_past self.now.units unit start length }
+    {
+        // A range row's unit is always there, which nothing here relies on.
+        let unit = self.units.get(unit).unwrap_or_default();
+        unit.is_passed_by(start, length)
+    }
+
+    /// The row that a unit is under: its unit row, else row 0.
+    pub fn row_under(&self, unit: u32) -> usize
+        ensures row { result ≡ row_under self.now.rows unit }
+        ensures within { result < 17 }
+    {
+        self.rows.find(Sought::UnitRowOf { unit }).unwrap_or(0)
+    }
+
+    /// The row that takes the blocks of a row over, which leaves: the unit row of its unit for a range row, else row 0.
+    pub fn receiver(&self, leaving: Kind) -> usize
+        ensures row { (mark : ℕ) → result ≡ cond (is_range_row leaving) (row_under self.now.rows (unit_or leaving mark)) 0 }
+        ensures within { result < 17 }
+    {
+        match leaving {
+            Kind::RangeRow { unit, .. } => self.row_under(unit),
+            _ => 0,
+        }
+    }
+
+    /// Whether the row that a unit is under, or a range row of it, is locked.
+    pub fn is_unit_locked(&self, unit: u32) -> bool
+        ensures { result ≡ list_any (λ r. locked (row r self.now.rows).flags) (row_under self.now.rows unit ∷ all_rows (RangeRowOf unit) self.now.rows) }
+    {
+        self.rows.get(self.row_under(unit)).flags.is_locked() || self.rows.is_range_locked(unit)
+    }
+
+    /// The range row of the unit that covers the block, else the row that the unit is under.
+    pub(crate) fn controlling_row(&self, unit: u32, block: u64) -> usize
         ensures row { result ≡ controlling_row self.now.rows unit block }
         ensures within { result < 17 }
     {
         self.rows
             .find(Sought::RangeOver { unit, block })
-            .or_else(|| self.rows.find(Sought::UnitRowOf { unit }))
-            .unwrap_or(0)
+            .unwrap_or_else(|| self.row_under(unit))
     }
 
     /// The row that controls a block of a unit, and the block's key: that range row's, else the unit's.

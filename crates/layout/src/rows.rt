@@ -1,6 +1,9 @@
-ghost use Rattle.std.specs.Prelude.{◌≡◌, ℕ, ◌<◌, ◌∷◌, length, replicate, IfSome};
-ghost use Rattle.rules.specs.Methods.{other_rows};
-ghost use Rattle.rules.specs.Rows.{free_row, global_row, row, lowest_row, with_row};
+ghost use Rattle.std.specs.Prelude.{◌≡◌, ◌<◌, ◌&&◌, if◌then◌else◌, ◌∷◌, length, map, replicate, IfSome};
+ghost use Rattle.std.specs.List.{list_any};
+ghost use Rattle.rules.specs.Methods.{other_rows, reactivated_row, selected};
+ghost use Rattle.rules.specs.declared.row.Sought.TheVariants.{RangeRowOf};
+ghost use Rattle.rules.specs.declared.row.Standing.TheVariants.{Shared, SingleUser};
+ghost use Rattle.rules.specs.Rows.{all_rows, anew, free_row, global_row, is_there, lock_enabled, locked, lowest_row, numbered, relocked, row, suits, with_flags, with_kind, with_range, with_row};
 
 use rules::row::{Flags, Kind, Row, Sought, Standing};
 use std::marker::Model;
@@ -86,4 +89,93 @@ impl Rows {
     {
         self.list.iter().position(|row| sought.suits(row))
     }
+
+    /// Whether some row is what is looked for.
+    pub fn has(&self, sought: Sought) -> bool
+        ensures { result ≡ is_there sought self.now }
+    {
+        self.find(sought).is_some()
+    }
+
+    /// Whether a lock is enabled on some row.
+    pub fn is_lock_enabled(&self) -> bool
+        ensures { result ≡ list_any (λ r. lock_enabled r.flags) self.now }
+    {
+        self.list.iter().any(|row| row.flags.is_lock_enabled())
+    }
+
+    /// Whether a range row of the unit is locked.
+    pub fn is_range_locked(&self, unit: u32) -> bool
+        ensures { result ≡ list_any (λ r. locked (row r self.now).flags) (all_rows (RangeRowOf unit) self.now) }
+    {
+        is_any_locked(&self.list, Sought::RangeRowOf { unit })
+    }
+
+    /// A row is taken for something else, or given up.
+    pub fn turn_into(&mut self, at: usize, kind: Kind)
+        requires { at < 17 }
+        ensures { self.new ≡ with_row at (anew kind (row at self.old)) self.old }
+    {
+        self.list[at].turn_into(kind);
+    }
+
+    /// Puts a range row over other blocks.
+    pub fn set_range(&mut self, at: usize, start: u64, length: u64)
+        requires { at < 17 }
+        ensures { self.new ≡ with_row at (with_kind (with_range start length (row at self.old).kind) (row at self.old)) self.old }
+    {
+        self.list[at].set_range(start, length);
+    }
+
+    pub fn set_flags(&mut self, at: usize, flags: Flags)
+        requires { at < 17 }
+        ensures { self.new ≡ with_row at (with_flags flags (row at self.old)) self.old }
+    {
+        self.list[at].set_flags(flags);
+    }
+
+    /// The drive was reset.
+    pub fn reset(&mut self)
+        ensures { self.new ≡ map (λ r. with_flags (relocked r.flags) r) self.old }
+    {
+        for row in self.list.iter_mut() {
+            row.reset();
+        }
+    }
+
+    /// Puts the rows in Single User Mode that are selected, and no others: bit i stands for row i.
+    pub fn reactivate(&mut self, selection: u32)
+        ensures { self.new ≡ map (λ entry. reactivated_row selection entry.0 entry.1) (numbered self.old) }
+    {
+        for (i, row) in self.list.iter_mut().enumerate() {
+            row.reactivate(standing_of(selection, i));
+        }
+    }
+}
+
+fn is_any_locked(rows: &[Row], sought: Sought) -> bool
+    ensures { result ≡ list_any (λ r. suits sought r && locked r.flags) rows.now }
+{
+    rows.iter()
+        .any(|row| sought.suits(row) && row.flags.is_locked())
+}
+
+/// The standing that a selection gives a row.
+pub fn standing_of(selection: u32, row: usize) -> Standing
+    requires { row < 32 }
+    ensures { result ≡ (if selected selection row then SingleUser else Shared) }
+{
+    if is_selected(selection, row) {
+        Standing::SingleUser
+    } else {
+        Standing::Shared
+    }
+}
+
+/// Whether the bit with this number is set.
+pub fn is_selected(selection: u32, bit: usize) -> bool
+    requires { bit < 32 }
+    ensures { result ≡ selected selection bit }
+{
+    (selection >> bit) % 2 == 1
 }

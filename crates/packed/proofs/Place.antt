@@ -7,7 +7,8 @@ use Rattle.std.proofs.lemmas.Cmp.{ranked}
 use Rattle.std.proofs.lemmas.Bool.Decides.{nat_tests}
 use Rattle.packed.specs.First.{first}
 use Rattle.packed.specs.Place.{IsGapFor}
-use Rattle.packed.specs.Rising.{rises, has, lookup, insert, remove}
+use Rattle.packed.specs.Rising.{rises, has, lookup, insert, remove, change}
+use Rattle.packed.proofs.Order.{change-absent}
 
 module _ {A : Type 0} (key : A → ℕ) where
   -- the numbers are at least the low one, and each is below those after it
@@ -87,6 +88,9 @@ module _ {A : Type 0} (key : A → ℕ) where
 
       pub remove-gap : remove key k xs ≡ xs
       remove-gap = remove-none xs has-gap
+
+      pub change-gap : (f : A → A) → change key k f xs ≡ xs
+      change-gap f = change-absent key k f xs lookup-gap
 
   -- ---- a new element goes to the gap for its number
   module _ (x : A) where

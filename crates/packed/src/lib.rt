@@ -1,9 +1,9 @@
 //! Searches by number in a slice, and lists that rise by number in memory of their own.
 #![tactic(auto)]
 
-ghost use Rattle.std.specs.Prelude.{◌≡◌, ℕ, ◌<◌, length, is_some, IfSome, ◌==◌};
+ghost use Rattle.std.specs.Prelude.{◌≡◌, ℕ, ◌<◌, length, IfSome, ◌==◌};
 ghost use Rattle.packed.specs.First.{first};
-ghost use Rattle.packed.specs.Rising.{has, lookup};
+ghost use Rattle.packed.specs.Rising.{has};
 
 mod sorted_list;
 

@@ -1,6 +1,6 @@
-ghost use Rattle.std.specs.Prelude.{◌≡◌, ℕ, ◌<◌, ◌≤◌, Bool, not, if◌then◌else◌, List, [], length, is_some, Some, IfOk, IfErr, IfSome, ◌==◌};
+ghost use Rattle.std.specs.Prelude.{◌≡◌, ◌<◌, ◌≤◌, not, if◌then◌else◌, List, [], length, is_some, Some, IfOk, IfErr, IfSome, ◌==◌};
 ghost use Rattle.packed.specs.First.{first};
-ghost use Rattle.packed.specs.Rising.{has, lookup, insert, remove, rises};
+ghost use Rattle.packed.specs.Rising.{has, lookup, insert, remove, change, rises};
 ghost use Rattle.packed.specs.Place.{IsGapFor};
 
 use crate::Keyed;
@@ -102,6 +102,20 @@ impl<T: Keyed + Copy + Default, const CAP: usize> SortedList<T, CAP> {
                 self.items.insert(at, new);
                 true
             }
+        }
+    }
+
+    /// Puts an element into the place of the one that has its number. Says whether there was one.
+    pub fn replace(&mut self, new: T) -> bool
+        ensures there { result ≡ has T.Keyed.key (T.Keyed.key new) self.old }
+        ensures list { self.new ≡ change T.Keyed.key (T.Keyed.key new) (λ _. new) self.old }
+    {
+        match self.search(new.key_of()) {
+            Ok(at) => {
+                self.items[at] = new;
+                true
+            }
+            Err(_) => false,
         }
     }
 

@@ -1,9 +1,10 @@
 use crate::files::write_sheet;
+use rules::ask::{Ask, Question, Reply};
 use rules::cause::Cause;
-use script::{Call, Line, Query};
+use runs::make::reply;
+use script::{Line, Order};
+use shown::{ShownRefusal, ShownReply};
 use std::fmt;
-use steps::shown::{ShownRefusal, ShownReply};
-use steps::{asked, make};
 use table::calls::Calls;
 
 /// What a line answers, as it is printed.
@@ -18,28 +19,34 @@ pub enum Answer {
 }
 
 impl Answer {
-    /// Makes the call of a line, on a drive whose rows without a unit have this mark.
+    /// The reply to a call or a question, on a drive whose rows without a unit have this mark.
+    pub fn replied(ask: Ask, reply: Reply, mark: u32) -> Answer {
+        Answer::Replied(ShownReply {
+            ask,
+            reply,
+            mark,
+            with_status: true,
+        })
+    }
+
+    /// What a line answers that only looks at the table; nothing where it is a call.
     pub fn to<C: Calls>(
         rt: &HostRuntime,
-        table: &mut C,
+        table: &C,
         line: &Line,
         mark: u32,
-    ) -> anyhow::Result<Answer> {
-        match line.call {
-            Call::Query(query) => Ok(replied(table, query, mark)),
-            Call::Describe => Ok(described(table)),
-            Call::Save { path } => saved(rt, table, line.number, path),
+    ) -> anyhow::Result<Option<Answer>> {
+        match line.order {
+            Order::Ask(Ask::Call(_)) => Ok(None),
+            Order::Ask(Ask::Question(question)) => Ok(Some(asked(table, question, mark))),
+            Order::Describe => Ok(Some(described(table))),
+            Order::Save { path } => saved(rt, table, line.number, path).map(Some),
         }
     }
 }
 
-fn replied<C: Calls>(table: &mut C, query: Query, mark: u32) -> Answer {
-    Answer::Replied(ShownReply {
-        ask: asked(query),
-        reply: make(table, query),
-        mark,
-        with_status: true,
-    })
+fn asked<C: Calls>(table: &C, question: Question, mark: u32) -> Answer {
+    Answer::replied(Ask::Question(question), reply(table, question), mark)
 }
 
 fn described<C: Calls>(table: &C) -> Answer {

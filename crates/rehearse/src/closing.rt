@@ -1,10 +1,10 @@
-use rules::ask::{Ask, Told};
+use rules::ask::{Ask, Question, Told};
 use rules::numbering::Bounds;
 use rules::row::{Kind, Row};
 use rules::unit::LogicalUnit;
 use std::alloc::{AllocError, Global};
 use std::fmt;
-use steps::shown::{ShownReply, ShownRow};
+use shown::{ShownReply, ShownRow};
 use table::calls::Calls;
 
 /// The keys of the table: the units' in rising order, then the range rows'.
@@ -21,7 +21,7 @@ pub fn keys<C: Calls>(heap: Global, table: &C) -> Result<Vec<u32>, AllocError> {
     Ok(all)
 }
 
-/// The keys that the vault holds: the table's, and then those that it was given. A closed table has none of its own.
+/// The keys that the vault holds, in rising order: of the table's, and of those that it was given, as a closed table has none.
 fn held<C: Calls>(heap: Global, table: &C, given: &[u32]) -> Result<Vec<u32>, AllocError> {
     let mut held = Vec::new(heap);
     for serial in keys(heap, table)?.iter().chain(given) {
@@ -29,6 +29,7 @@ fn held<C: Calls>(heap: Global, table: &C, given: &[u32]) -> Result<Vec<u32>, Al
             held.push(*serial)?;
         }
     }
+    held.sort_unstable();
     Ok(held)
 }
 
@@ -67,7 +68,7 @@ pub fn report<C: Calls>(
     let held = Serials(held.as_slice());
     let gone = Serials(gone);
     let unused = ShownReply {
-        ask: Ask::Unused,
+        ask: Ask::Question(Question::Unused),
         reply: table.unused().map(Told::Unused),
         mark: bounds.mark,
         with_status: true,

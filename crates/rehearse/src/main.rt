@@ -6,6 +6,7 @@ mod closing;
 mod files;
 mod input;
 mod rehearsal;
+mod telling;
 mod vaults;
 
 use anyhow::anyhow;

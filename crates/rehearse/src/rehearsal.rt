@@ -1,13 +1,13 @@
-use crate::answer::Answer;
-use crate::closing::{keys, report};
+use crate::closing::report;
+use crate::telling::Teller;
 use crate::vaults::{Beginning, file_with, write_registers};
-use rules::cause::Cause;
+use rules::ask::Ask;
 use rules::numbering::{Numbering, Nvme, Scsi};
-use script::{Line, NumberingKind, Script, VaultKind};
-use steps::shown::ShownRefusal;
-use table::calls::Calls;
-use table::loading::load_check;
-use table::state::{Table, fresh_check};
+use runs::run::run;
+use runs::source::check;
+use runs::step::Step;
+use script::{Line, NumberingKind, Order, Script, VaultKind};
+use std::alloc::{AllocError, Global};
 use vault::Vault;
 use vault::chip::KeyChip;
 
@@ -40,28 +40,19 @@ fn over_vault<N: Numbering>(rt: &HostRuntime, script: &Script) -> anyhow::Result
     }
 }
 
-/// Lays the table out, makes the calls in their order, and prints what took place.
+/// Lays the table out, makes the calls in their order, and prints what took place. All that changes the table is the one run.
 fn rehearse<V: Vault, N: Numbering>(
     rt: &HostRuntime,
     script: &Script,
     beginning: &Beginning,
     vault: &mut V,
 ) -> anyhow::Result<()> {
-    let (check, mut table) = laid_out::<V, N>(vault, beginning);
-    let words = script.layout_words.as_str();
-    match check {
-        Ok(()) => println!(rt; "{words} => open")?,
-        Err(cause) => {
-            println!(rt;
-                "{words} => closed, {}",
-                ShownRefusal { cause, asked: None }
-            )?
-        }
-    }
-    let mut gone = Vec::new(rt.alloc());
-    for line in &script.lines {
-        call(rt, &mut table, line, N::BOUNDS.mark, &mut gone)?;
-    }
+    let source = beginning.source();
+    let mut steps = steps_of(rt.alloc(), script.lines.as_slice())?;
+    let check = check::<V, N>(vault, source);
+    let mut teller = Teller::new(rt, script, N::BOUNDS.mark, check);
+    let table = run::<V, N, _>(vault, source, steps.as_mut_slice(), &mut teller);
+    let gone = teller.end()?;
     report(
         rt,
         &table,
@@ -71,39 +62,13 @@ fn rehearse<V: Vault, N: Numbering>(
     )
 }
 
-/// The table, and whether it is open.
-fn laid_out<'v, V: Vault, N: Numbering>(
-    vault: &'v mut V,
-    beginning: &Beginning,
-) -> (Result<(), Cause>, Table<'v, V, N>) {
-    match &beginning.sheet {
-        None => {
-            let check = fresh_check(vault);
-            (check, Table::fresh(vault))
-        }
-        Some(sheet) => {
-            let check = load_check::<V, N>(vault, sheet.as_slice());
-            (check, Table::load(vault, sheet.as_slice()))
+/// The calls of a script. What is asked between them is answered at its point of the run.
+fn steps_of(heap: Global, lines: &[Line]) -> Result<Vec<Step>, AllocError> {
+    let mut steps = Vec::new(heap);
+    for line in lines {
+        if let Order::Ask(Ask::Call(call)) = line.order {
+            steps.push(Step::of(call))?;
         }
     }
-}
-
-/// Makes the call of one line, prints its answer, and notes the keys that it eradicated.
-fn call<C: Calls>(
-    rt: &HostRuntime,
-    table: &mut C,
-    line: &Line,
-    mark: u32,
-    gone: &mut Vec<u32>,
-) -> anyhow::Result<()> {
-    let before = keys(rt.alloc(), table)?;
-    let answer = Answer::to(rt, table, line, mark)?;
-    let words = line.words.as_str();
-    println!(rt; "{words} => {answer}")?;
-    for serial in before {
-        if !table.holds(serial) {
-            gone.push(serial)?;
-        }
-    }
-    Ok(())
+    Ok(steps)
 }

@@ -1,6 +1,7 @@
 //! What a rehearsal begins with: the sheet, and the keys that the vault holds.
 use crate::files::read_sheet;
 use rules::numbering::Bounds;
+use runs::source;
 use script::{Script, Source};
 use std::alloc::{AllocError, Global};
 use vault::Vault;
@@ -33,6 +34,14 @@ impl Beginning {
                     serials,
                 })
             }
+        }
+    }
+
+    /// What the table is laid out from.
+    pub fn source(&self) -> source::Source<'_> {
+        match &self.sheet {
+            None => source::Source::Blank,
+            Some(sheet) => source::Source::Sheet(sheet.as_slice()),
         }
     }
 }

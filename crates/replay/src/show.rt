@@ -1,9 +1,9 @@
 use rules::access::Access;
-use rules::ask::Ask;
+use rules::ask::{Ask, Question};
 use rules::call::Call;
 use rules::row::Standing;
 use std::fmt;
-use steps::shown::Shown;
+use shown::Shown;
 
 /// A call or a question in the words of a script: who calls, its name, and what it is called with. Each has a form of its own.
 #[derive(Clone, Copy)]
@@ -12,23 +12,29 @@ pub struct Words(pub Ask);
 impl fmt::Display for Words {
     fn fmt<W: fmt::Write>(&self, f: &mut fmt::Formatter<W>) -> fmt::Result {
         match self.0 {
-            Ask::Call { call } => write_call(call, f),
-            Ask::Unused => f.write_str("unused"),
-            Ask::Controls { unit, block } => write!(f, "controls {unit} {block}"),
-            Ask::Access {
-                access,
-                unit,
-                first,
-                count,
-            } => {
-                let way = match access {
-                    Access::Read => "read",
-                    Access::Write => "write",
-                };
-                write!(f, "access {way} {unit} {first} {count}")
-            }
-            Ask::ReadRow { caller, row } => write!(f, "{} read-row {row}", Caller(caller)),
+            Ask::Call(call) => write_call(call, f),
+            Ask::Question(question) => write_question(question, f),
         }
+    }
+}
+
+fn write_question<W: fmt::Write>(question: Question, f: &mut fmt::Formatter<W>) -> fmt::Result {
+    match question {
+        Question::Unused => f.write_str("unused"),
+        Question::Controls { unit, block } => write!(f, "controls {unit} {block}"),
+        Question::Access {
+            access,
+            unit,
+            first,
+            count,
+        } => {
+            let way = match access {
+                Access::Read => "read",
+                Access::Write => "write",
+            };
+            write!(f, "access {way} {unit} {first} {count}")
+        }
+        Question::ReadRow { caller, row } => write!(f, "{} read-row {row}", Caller(caller)),
     }
 }
 

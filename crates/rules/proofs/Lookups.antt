@@ -1,5 +1,5 @@
 -- Elements that have a number each: what is found after one is put in, taken out or changed.
-use Rattle.std.proofs.Common.{◌≡◌, ℕ, zero, suc, ◌<◌, ◌≤◌, Bool, true, false, cond, ◌&&◌, ◌||◌, eqb, ltb, leb, ◌≢◌, List, [], ◌∷◌, length, get_or, set, Some, None, unwrap_or, sym, refl, ap, ◌∙◌, inl, inr, arith}
+use Rattle.std.proofs.Common.{◌≡◌, ℕ, zero, suc, ◌<◌, ◌≤◌, Bool, true, false, cond, ◌&&◌, ◌||◌, eqb, ltb, leb, ◌≢◌, List, [], ◌∷◌, length, get_or, Some, None, unwrap_or, sym, refl, ap, ◌∙◌, inl, inr, arith}
 use Rattle.std.proofs.lemmas.Bool.Decides.{nat_tests}
 use Rattle.std.proofs.lemmas.Bool.{cases_lt, both_ways, and_parts, leb-true, eqb-true, eq-eqb, ne_eqb, true≢false}
 use Rattle.std.specs.Option.{option_map}
@@ -7,7 +7,6 @@ use Rattle.std.specs.List.{AllByRecursion}
 use Rattle.packed.specs.First.{first}
 use Rattle.packed.specs.Rising.{rises, has, lookup, insert, remove, change}
 use Rattle.packed.proofs.Order.{has-absent}
-use Rattle.packed.proofs.Search.{when-found}
 use Rattle.rules.proofs.Searches.{cases-option}
 
 module _ {A : Type 0} (key : A → ℕ) where
@@ -17,10 +16,6 @@ module _ {A : Type 0} (key : A → ℕ) where
     | inl p ↦ p
     | inr n ↦ absurd (both_ways (has key k xs) (has-absent key k xs n) h)
   ]
-
-  pub change-found : (k : ℕ) (f : A → A) (xs : List A) (i : ℕ) → first (λ x. eqb (key x) k) xs ≡ Some i → (d : A) → change key k f xs ≡ set xs i (f (get_or xs i d))
-  unfolding change
-  change-found k f = when-found (λ x. eqb (key x) k) (λ xs i. (d : A) → change key k f xs ≡ set xs i (f (get_or xs i d))) (λ x xs t d. rw t) (λ x xs j t h d. rw t (ap (λ l. x ∷ l) (h d)))
 
   -- ---- what is found
   pub lookup-insert : (k : ℕ) (x : A) (ys : List A) → has key (key x) ys ≡ false → lookup key k (insert key x ys) ≡ cond (eqb (key x) k) (Some x) (lookup key k ys)
@@ -157,15 +152,6 @@ module _ {A : Type 0} (key : A → ℕ) where
         go : (b : Bool) → rises key (suc (key x)) (change key n f xs) ≡ rises key (suc (key x)) xs → rises key low (cond b (f x ∷ xs) (x ∷ change key n f xs)) ≡ (leb low (key x) && rises key (suc (key x)) xs)
         go true ih = ap (λ m. leb low m && rises key (suc m) xs) (same x)
         go false ih = ap (λ b. leb low (key x) && b) ih
-
-    pub length-change : (xs : List A) → length (change key n f xs) ≡ length xs
-    unfolding change
-    length-change [] = refl
-    length-change (x ∷ xs) = go (eqb (key x) n) (length-change xs)
-      where
-        go : (b : Bool) → length (change key n f xs) ≡ length xs → length (cond b (f x ∷ xs) (x ∷ change key n f xs)) ≡ suc (length xs)
-        go true ih = refl
-        go false ih = ap suc ih
 
     pub all-change : (P : A → Type 0) → ((x : A) → P x → P (f x)) → (xs : List A) → AllByRecursion P xs → AllByRecursion P (change key n f xs)
     unfolding change

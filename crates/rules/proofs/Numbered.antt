@@ -56,7 +56,7 @@ filter-higher w (e ∷ es) = go (suits w e.1) (filter-higher w es)
     go true h = ap (λ ns. suc e.0 ∷ ns) h
     go false h = h
 
-all-more : (w : Sought) (r : Row) (rs : List Row) → all_rows w (r ∷ rs) ≡ cond (suits w r) (0 ∷ map suc (all_rows w rs)) (map suc (all_rows w rs))
+pub all-more : (w : Sought) (r : Row) (rs : List Row) → all_rows w (r ∷ rs) ≡ cond (suits w r) (0 ∷ map suc (all_rows w rs)) (map suc (all_rows w rs))
 unfolding all_rows
 all-more w r rs = go (suits w r) (ap (λ es. map (λ entry. entry.0) (filter (λ entry. suits w entry.1) es)) (higher-by 0 rs) ∙ filter-higher w (numbered rs))
   where

@@ -7,7 +7,7 @@ use Rattle.std.proofs.lemmas.Bool.{and_from, lt-ltb, true≢false}
 use Rattle.std.specs.Option.{option_map}
 use Rattle.std.specs.List.{AllByRecursion}
 use Rattle.packed.specs.Rising.{has, lookup}
-use Rattle.packed.proofs.Order.{lookup-found}
+use Rattle.packed.proofs.Order.{lookup-found, length-change, change-found}
 use Rattle.vault.specs.Kinds.{can_be_capacity}
 use Rattle.vault.specs.Meaning.{swap_refusal, swap_after}
 use Rattle.rules.specs.declared.row.Kind.{Kind}
@@ -25,7 +25,7 @@ use Rattle.rules.specs.Rows.{row, is_free, is_range_row, key_or, with_serial, is
 use Rattle.rules.specs.Sound.{unit_fits, SoundUnits, is_global, row_fits, serials, Sound}
 use Rattle.rules.specs.Units.{no_unit, exists, unit, with_key}
 use Rattle.rules.proofs.Keys.{keys-as, swap-capacity, swap-done, swap-keys}
-use Rattle.rules.proofs.Lookups.{place_of, change-found, lookup-change, has-change, rises-change, length-change, all-change}
+use Rattle.rules.proofs.Lookups.{place_of, lookup-change, has-change, rises-change, all-change}
 use Rattle.rules.proofs.Places.{range-parts, unit-place, place, key-nonzero}
 use Rattle.rules.proofs.RowsKept.{any_same, within, in_table, no_other, fits-exists, fits_under, fits-inside, rows-range, rows-units}
 use Rattle.rules.proofs.Numbered.{all-by}
@@ -71,7 +71,7 @@ module _ (n serial : ℕ) (units : List LogicalUnit) where
 
   pub keyed-units : (bounds : _) → 0 < serial → SoundUnits bounds units → SoundUnits bounds (with_key n serial units)
   keyed-units bounds p h = record {
-    few = omega (arith, length-change number_of n keyed same_number units, h.few);
+    few = omega (arith, length-change number_of n keyed units, h.few);
     ordered = rises-change number_of n keyed same_number 0 units ∙ h.ordered;
     each = all-change number_of n keyed same_number (λ u. unit_fits bounds u ≡ true) (λ u f. let t = lt-ltb 0 serial p in grind (arith, nat_tests)) units h.each;
   }

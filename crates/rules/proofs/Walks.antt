@@ -6,10 +6,10 @@ use Rattle.rules.specs.Walk.{points_by}
 
 module _ {S C A : Type 0} (next : S → C → S) (answer : S → C → A) where
   -- The answer to a call is that of the state it meets.
-  pub answer_at : (s : S) (cs : List C) (e : S) (d : C) (a : A) (k : ℕ) → k < length cs → get_or (scan next answer s cs) k a ≡ answer (get_or (points_by next s cs) k e) (get_or cs k d)
-  answer_at s [] e d a k lt = absurd (omega arith)
-  answer_at s (c ∷ cs) e d a zero lt = refl
-  answer_at s (c ∷ cs) e d a (suc k) lt = answer_at (next s c) cs e d a k (omega arith)
+  pub answer-at : (s : S) (cs : List C) (e : S) (d : C) (a : A) (k : ℕ) → k < length cs → get_or (scan next answer s cs) k a ≡ answer (get_or (points_by next s cs) k e) (get_or cs k d)
+  answer-at s [] e d a k lt = absurd (omega arith)
+  answer-at s (c ∷ cs) e d a zero lt = refl
+  answer-at s (c ∷ cs) e d a (suc k) lt = answer-at (next s c) cs e d a k (omega arith)
 
 module _ {S C : Type 0} (next : S → C → S) where
   -- What each call keeps holds at every point.

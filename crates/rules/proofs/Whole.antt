@@ -22,7 +22,7 @@ use Rattle.rules.specs.declared.unit.Holder.TheVariants.{TheUnit, TheRow}
 use Rattle.rules.specs.Calls.{refusal, left, said, after, answer, is_accepted}
 use Rattle.rules.specs.Drive.{Drive, kind_of}
 use Rattle.rules.specs.FreshKeys.{fresh_key, holders_of, unit_and_ranges}
-use Rattle.rules.specs.Laws.{Begins, point, call_at, answered_at, StaysSound, AlwaysRangesInOrder, holds_key, AlwaysOneKeyEach, NoRequestRefused, NoKeyReturns, has_block, FreshlyKeyed, SetByOwner, OpenedByOwnerOrFreshKey, RefusedChangesNothing}
+use Rattle.rules.specs.Laws.{Begins, point, call_at, answers, answer_at, StaysSound, AlwaysRangesInOrder, holds_key, AlwaysOneKeyEach, NoRequestRefused, NoKeyReturns, has_block, FreshlyKeyed, SetByOwner, OpenedByOwnerOrFreshKey, RefusedChangesNothing}
 use Rattle.rules.specs.Methods.{unit_row_assigned, range_row_assigned, freed, given_up}
 use Rattle.rules.specs.Questions.{block_locked}
 use Rattle.rules.specs.Requests.{Request, Put, Swap, Drop, vault_after, NoneRefused, swaps, requests_of_deassign, requests}
@@ -33,7 +33,7 @@ use Rattle.rules.proofs.Beginnings.{fresh-sound}
 use Rattle.rules.proofs.Locks.{shut_to, Way, after-opens}
 use Rattle.rules.proofs.Points.{ranges-of, keys_of}
 use Rattle.rules.proofs.Steps.{left-kept, after-sound}
-use Rattle.rules.proofs.Walks.{always, always-from, answer_at, point-next, stopped-kept}
+use Rattle.rules.proofs.Walks.{always, always-from, answer-at, point-next, stopped-kept}
 
 -- ---- the serials that a call brings in
 abbrev BringsIn : ℕ → Request → Type 0
@@ -163,8 +163,8 @@ module _ (d : Drive) (calls : List Call) (k : ℕ) (lt : k < length calls) where
   pub next-point : point d calls (k + 1) ≡ after (point d calls k) (call_at calls k)
   next-point = point-next after d calls d (Reset 0) k lt
 
-  pub answered : answered_at d calls k ≡ answer (point d calls k) (call_at calls k)
-  answered = answer_at after answer d calls d (Reset 0) (Ok Success) k lt
+  pub answered : answer_at (answers d calls) k ≡ answer (point d calls k) (call_at calls k)
+  answered = answer-at after answer d calls d (Reset 0) (Ok Success) k lt
 
 pub no-request-refused : NoRequestRefused
 no-request-refused d b calls k lt acc =

@@ -4,6 +4,8 @@ use Rattle.std.specs.Result.{result_map_both}
 use Rattle.vault.specs.Checks.{answer}
 use Rattle.rules.specs.declared.ask.Ask.{Ask}
 use Rattle.rules.specs.declared.ask.Ask.TheVariants as asks
+use Rattle.rules.specs.declared.ask.Question.{Question}
+use Rattle.rules.specs.declared.ask.Question.TheVariants.{Unused, Controls, Access, ReadRow}
 use Rattle.rules.specs.declared.ask.Told.{Told}
 use Rattle.rules.specs.declared.ask.Told.TheVariants as tells
 use Rattle.rules.specs.declared.cause.Cause.{Cause}
@@ -19,18 +21,19 @@ Reply = Result Told Cause
 abbrev pub told : {A : Type 0} → (A → Told) → Result A Cause → Reply
 told tell outcome = result_map_both tell (λ cause. cause) outcome
 
--- what the definitions reply
+-- what the definitions reply to a question
+abbrev pub reply : Drive → Question → Reply
+reply d Unused = told tells.Unused (unused_answer d)
+reply d (Controls unit block) = told tells.Controls (controls_answer d unit block)
+reply d (Access access unit start count) = told (λ _. tells.Granted) (access_answer d access unit start count)
+reply d (ReadRow caller row) = told tells.Row (answer (in_session caller (read_row_refusal d row)) (row_fields d row))
+
+-- what they reply to a call or a question
 abbrev pub reply_to : Drive → Ask → Reply
 reply_to d (asks.Call call) = told tells.Answered (calls.answer d call)
-reply_to d asks.Unused = told tells.Unused (unused_answer d)
-reply_to d (asks.Controls unit block) = told tells.Controls (controls_answer d unit block)
-reply_to d (asks.Access access unit start count) = told (λ _. tells.Granted) (access_answer d access unit start count)
-reply_to d (asks.ReadRow caller row) = told tells.Row (answer (in_session caller (read_row_refusal d row)) (row_fields d row))
+reply_to d (asks.Question question) = reply d question
 
 -- what they leave: a question changes nothing
 abbrev pub left_by : Drive → Ask → Drive
 left_by d (asks.Call call) = calls.after d call
-left_by d asks.Unused = d
-left_by d (asks.Controls unit block) = d
-left_by d (asks.Access access unit start count) = d
-left_by d (asks.ReadRow caller row) = d
+left_by d (asks.Question question) = d

@@ -39,11 +39,20 @@ point d calls k = slice_index_or (points_by after d calls) k d
 abbrev pub call_at : List Call → ℕ → Call
 call_at calls k = slice_index_or calls k (Reset 0)
 
-abbrev pub answered_at : Drive → List Call → ℕ → Answer
-answered_at d calls k = slice_index_or (scan after answer d calls) k (Ok Success)
+-- what the definitions answer, call by call
+abbrev pub answers : Drive → List Call → List Answer
+answers d calls = scan after answer d calls
+
+abbrev pub answer_at : List Answer → ℕ → Answer
+answer_at given k = slice_index_or given k (Ok Success)
+
+-- What is said below of one run takes where it begins and its calls; and, where it speaks of answers, those that were given.
+-- A law says it of every run, where the answers given are those of the definitions.
+abbrev pub EachPoint : (Drive → Type 0) → Drive → List Call → Type 0
+EachPoint Law d calls = (k : ℕ) → k ≤ length calls → Law (point d calls k)
 
 abbrev pub AtEveryPoint : (Drive → Type 0) → Type 0
-AtEveryPoint Law = (d : Drive) → Begins d → (calls : List Call) (k : ℕ) → k ≤ length calls → Law (point d calls k)
+AtEveryPoint Law = (d : Drive) → Begins d → (calls : List Call) → EachPoint Law d calls
 
 -- ---- a sheet can describe the drive at every point
 abbrev pub StaysSound : Type 0
@@ -79,16 +88,22 @@ pub record OneKeyEach (d : Drive) : Type 0 where
 abbrev pub AlwaysOneKeyEach : Type 0
 AlwaysOneKeyEach = AtEveryPoint OneKeyEach
 
--- ---- no request that a call makes of the vault is refused, and nothing else changes the vault
-abbrev pub NoRequestRefused : Type 0
-NoRequestRefused = (d : Drive) → Begins d → (calls : List Call) (k : ℕ) → k < length calls
-    → is_accepted (answered_at d calls k) ≡ true
+-- ---- no request that an accepted call makes of the vault is refused, and nothing else changes the vault
+abbrev pub NoRequestRefusedIn : Drive → List Call → List Answer → Type 0
+NoRequestRefusedIn d calls given = (k : ℕ) → k < length calls
+    → is_accepted (answer_at given k) ≡ true
     → NoneRefused (point d calls k).vault (requests (point d calls k) (call_at calls k)) (point d calls (k + 1)).vault
 
+abbrev pub NoRequestRefused : Type 0
+NoRequestRefused = (d : Drive) → Begins d → (calls : List Call) → NoRequestRefusedIn d calls (answers d calls)
+
 -- ---- a key that was held and is no more is never held again
-abbrev pub NoKeyReturns : Type 0
-NoKeyReturns = (d : Drive) → Begins d → (calls : List Call) (s i j k : ℕ) → i ≤ j → j ≤ k → k ≤ length calls
+abbrev pub NoKeyReturnsIn : Drive → List Call → Type 0
+NoKeyReturnsIn d calls = (s i j k : ℕ) → i ≤ j → j ≤ k → k ≤ length calls
     → holds_key (point d calls i) s ≡ true → holds_key (point d calls j) s ≡ false → holds_key (point d calls k) s ≡ false
+
+abbrev pub NoKeyReturns : Type 0
+NoKeyReturns = (d : Drive) → Begins d → (calls : List Call) → NoKeyReturnsIn d calls
 
 -- ---- a lock opens only by its owner or by a fresh key
 -- there is such a block
@@ -115,15 +130,21 @@ pub record SetByOwner (d : Drive) (n block : ℕ) (call : Call) (answered : Answ
   pub accepted : answered ≡ Ok Success
 
 -- a block that is locked at one point and open at a later one, for reading or for writing
-abbrev pub OpenedByOwnerOrFreshKey : Type 0
-OpenedByOwnerOrFreshKey = (d : Drive) → Begins d → (calls : List Call) (access : Access) (n block i j : ℕ) → i ≤ j → j ≤ length calls
+abbrev pub OpenedByOwnerOrFreshKeyIn : Drive → List Call → List Answer → Type 0
+OpenedByOwnerOrFreshKeyIn d calls given = (access : Access) (n block i j : ℕ) → i ≤ j → j ≤ length calls
     → has_block (point d calls i) n block ≡ true → block_locked (point d calls i).rows access n block ≡ true
     → has_block (point d calls j) n block ≡ true → block_locked (point d calls j).rows access n block ≡ false
     → (k : ℕ) × (i ≤ k) × (k < j) × (
     FreshlyKeyed (point d calls k) (point d calls (k + 1)) n block
-    ⊎ SetByOwner (point d calls k) n block (call_at calls k) (answered_at d calls k))
+    ⊎ SetByOwner (point d calls k) n block (call_at calls k) (answer_at given k))
+
+abbrev pub OpenedByOwnerOrFreshKey : Type 0
+OpenedByOwnerOrFreshKey = (d : Drive) → Begins d → (calls : List Call) → OpenedByOwnerOrFreshKeyIn d calls (answers d calls)
 
 -- ---- a refused call leaves everything as it was
+abbrev pub RefusedChangesNothingIn : Drive → List Call → List Answer → Type 0
+RefusedChangesNothingIn d calls given = (k : ℕ) (cause : Cause) → k < length calls
+    → answer_at given k ≡ Err cause → point d calls (k + 1) ≡ point d calls k
+
 abbrev pub RefusedChangesNothing : Type 0
-RefusedChangesNothing = (d : Drive) (calls : List Call) (k : ℕ) (cause : Cause) → k < length calls
-    → answered_at d calls k ≡ Err cause → point d calls (k + 1) ≡ point d calls k
+RefusedChangesNothing = (d : Drive) (calls : List Call) → RefusedChangesNothingIn d calls (answers d calls)

@@ -11,7 +11,7 @@ use Rattle.rules.specs.declared.unit.Holder.TheVariants.{TheUnit, TheRow}
 use Rattle.rules.specs.Commands.{formatted}
 use Rattle.rules.specs.Drive.{Drive, kind_of}
 use Rattle.rules.specs.FreshKeys.{HasKey, key_of, fresh_keys, renewed_by, unit_and_ranges}
-use Rattle.rules.specs.Laws.{Begins, point, call_at, answered_at}
+use Rattle.rules.specs.Laws.{Begins, point, call_at, answers, answer_at}
 use Rattle.rules.specs.Methods.{key_generated}
 use Rattle.rules.specs.Questions.{block_locked, access_refusal}
 use Rattle.rules.specs.Rows.{is_single_user, covers, shares, range_row_of, has_unit_row, controlling_row}
@@ -46,7 +46,7 @@ single_user_rows d = length (filter (λ r. is_single_user r.standing) d.rows)
 
 abbrev pub ReactivateCountsRows : Type 0
 ReactivateCountsRows = (d : Drive) → Begins d → (calls : List Call) (k caller selection policy count : ℕ) → k < length calls
-    → call_at calls k ≡ Reactivate caller selection policy → answered_at d calls k ≡ Ok (SingleUserRows count) → single_user_rows (point d calls (k + 1)) ≡ count
+    → call_at calls k ≡ Reactivate caller selection policy → answer_at (answers d calls) k ≡ Ok (SingleUserRows count) → single_user_rows (point d calls (k + 1)) ≡ count
 
 -- fresh keys are given in order: the first of these gets the next serial, the second the one after it, and so on; and no other key changes
 pub record KeyedInOrder (d : Drive) (holders : List Holder) : Type 0 where

@@ -1,5 +1,5 @@
 /// What blocks are wanted for.
-#[derive(Clone, Copy)]
+#[derive(Clone, Copy, PartialEq, Eq)]
 pub enum Access {
     Read,
     Write,

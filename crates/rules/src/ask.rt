@@ -5,27 +5,35 @@ use crate::cause::Cause;
 use crate::row::RowFields;
 use crate::unit::Control;
 
-/// What a drive is asked: a call, or a question.
-#[derive(Clone, Copy)]
-pub enum Ask {
-    Call {
-        call: Call,
-    },
+/// A question, which changes nothing.
+#[derive(Clone, Copy, PartialEq, Eq)]
+pub enum Question {
+    /// How many keys are not in use.
     Unused,
+    /// Which row controls a block, and under which key.
     Controls {
         unit: u32,
         block: u64,
     },
+    /// Whether blocks can be read, or written.
     Access {
         access: Access,
         unit: u32,
         first: u64,
         count: u64,
     },
+    /// What a row says. It is read in a session of its caller.
     ReadRow {
         caller: u32,
         row: u32,
     },
+}
+
+/// What a drive is asked.
+#[derive(Clone, Copy, PartialEq, Eq)]
+pub enum Ask {
+    Call(Call),
+    Question(Question),
 }
 
 /// What an accepted call or question tells.

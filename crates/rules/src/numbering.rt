@@ -1,4 +1,4 @@
-ghost use Rattle.std.specs.Prelude.{◌≡◌, ℕ, false};
+ghost use Rattle.std.specs.Prelude.{◌≡◌, false};
 ghost use Rattle.std.proofs.Common.{refl};
 ghost use Rattle.rules.specs.Units.{valid};
 ghost use Rattle.rules.specs.declared.numbering.Bounds.{Bounds};

@@ -1,7 +1,10 @@
-ghost use Rattle.std.specs.Prelude.{◌≡◌};
+ghost use Rattle.std.specs.Prelude.{◌≡◌, ◌==◌};
 ghost use Rattle.rules.specs.Questions.{fields_of};
-ghost use Rattle.rules.specs.Rows.{key_or, locked, suits, shares};
+ghost use Rattle.rules.specs.Rows.{anew, blank, is_single_user, key_or, lock_enabled, locked, locked_for, relocked, suits, shares, with_flags, with_kind, with_range};
+ghost use Rattle.rules.specs.Sessions.{mover, owner};
 
+use crate::access::Access;
+use crate::call::ADMINS;
 use crate::numbering::Bounds;
 
 /// The five lock flags of a row.
@@ -24,11 +27,39 @@ impl Flags {
         lock_on_reset: true,
     };
 
+    /// Whether a row with these flags is locked for this access: that lock is enabled, and set.
+    pub fn is_locked_for(self, access: Access) -> bool
+        ensures { result ≡ locked_for access self }
+    {
+        match access {
+            Access::Read => self.read_lock_enabled && self.read_locked,
+            Access::Write => self.write_lock_enabled && self.write_locked,
+        }
+    }
+
     /// Whether a row with these flags is locked for reading or for writing.
     pub fn is_locked(self) -> bool
         ensures { result ≡ locked self }
     {
-        self.read_lock_enabled && self.read_locked || self.write_lock_enabled && self.write_locked
+        self.is_locked_for(Access::Read) || self.is_locked_for(Access::Write)
+    }
+
+    /// Whether one of the two locks is enabled, set or not.
+    pub fn is_lock_enabled(self) -> bool
+        ensures { result ≡ lock_enabled self }
+    {
+        self.read_lock_enabled || self.write_lock_enabled
+    }
+
+    /// What a reset makes of the flags: where lock on reset is true, each lock that is enabled is set.
+    pub fn relocked(self) -> Flags
+        ensures { result ≡ relocked self }
+    {
+        Flags {
+            read_locked: self.read_locked || self.lock_on_reset && self.read_lock_enabled,
+            write_locked: self.write_locked || self.lock_on_reset && self.write_lock_enabled,
+            ..self
+        }
     }
 }
 
@@ -57,6 +88,14 @@ pub enum Kind {
 pub enum Standing {
     Shared,
     SingleUser,
+}
+
+impl Standing {
+    pub fn is_single_user(self) -> bool
+        ensures { result ≡ is_single_user self }
+    {
+        matches!(self, Standing::SingleUser)
+    }
 }
 
 /// A row of the Locking table.
@@ -113,6 +152,68 @@ impl Row {
                 ..bare
             },
         }
+    }
+
+    /// The row is taken for something else, or given up: its standing stays, and its flags are blank.
+    pub fn turn_into(&mut self, kind: Kind)
+        ensures { self.new ≡ anew kind self.old }
+    {
+        self.kind = kind;
+        self.flags = Flags::BLANK;
+    }
+
+    /// Puts a range row over other blocks.
+    pub fn set_range(&mut self, start: u64, length: u64)
+        ensures { self.new ≡ with_kind (with_range start length self.old.kind) self.old }
+    {
+        if let Kind::RangeRow { unit, serial, .. } = self.kind {
+            self.kind = Kind::RangeRow {
+                unit,
+                start,
+                length,
+                serial,
+            };
+        }
+    }
+
+    pub fn set_flags(&mut self, flags: Flags)
+        ensures { self.new ≡ with_flags flags self.old }
+    {
+        self.flags = flags;
+    }
+
+    /// The drive was reset.
+    pub fn reset(&mut self)
+        ensures { self.new ≡ with_flags (relocked self.old.flags) self.old }
+    {
+        self.flags = self.flags.relocked();
+    }
+
+    /// Puts the row in Single User Mode, or takes it out; its flags are blank.
+    pub fn reactivate(&mut self, standing: Standing)
+        ensures { self.new ≡ record { kind = self.old.kind; standing = standing; flags = blank } }
+    {
+        self.standing = standing;
+        self.flags = Flags::BLANK;
+    }
+
+    /// Whether this caller may move the row's range, where the row has this number: its owner under policy 0, Admins under policy 1.
+    pub fn is_moved_by(self, caller: u32, number: u32, policy: u16) -> bool
+        ensures { result ≡ (caller == mover policy number self) }
+    {
+        match (caller, self.standing, policy) {
+            (user, Standing::SingleUser, 0) if user > ADMINS => user - 1 == number,
+            (ADMINS, Standing::Shared, 0) | (ADMINS, _, 1..) => true,
+            _ => false,
+        }
+    }
+
+    /// Whether this caller owns the row, which has this number.
+    pub fn is_owned_by(self, caller: u32, number: u32) -> bool
+        ensures { result ≡ (caller == owner number self) }
+    {
+        // Under policy 0 it is the owner who moves a range.
+        self.is_moved_by(caller, number, 0)
     }
 
     /// The serial of the row's own key, or 0 where it has none.

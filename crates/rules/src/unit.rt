@@ -1,4 +1,5 @@
-ghost use Rattle.std.specs.Prelude.{◌≡◌, ℕ, ◌+◌, nat_lt};
+ghost use Rattle.std.specs.Prelude.{◌≡◌, ◌+◌, nat_lt};
+ghost use Rattle.rules.specs.declared.unit.Holder.TheVariants.{TheUnit};
 
 use packed::Keyed;
 
@@ -41,4 +42,13 @@ pub struct Control {
 pub enum Holder {
     TheUnit { number: u32 },
     TheRow { row: u32 },
+}
+
+/// What stands in the unused places of a list of holders.
+impl Default for Holder {
+    ghost is_default = { λ holder. holder ≡ TheUnit 0 };
+
+    fn default() -> Self {
+        Holder::TheUnit { number: 0 }
+    }
 }

@@ -1,18 +1,25 @@
 -- Which call the words of a line say.
-use Rattle.std.specs.Prelude.{◌≡◌, ℕ, suc, zero, ◌^◌, ◌≤◌, List, [], ◌∷◌, map, IfSome, Ok, Vec, vec_items, vec_len, string_bytes, codes, Option, Some, None}
-use Rattle.std.specs.List.{AllByRecursion}
+use Rattle.std.specs.Prelude.{◌≡◌, ℕ, suc, zero, ◌^◌, ◌<◌, ◌≤◌, Bool, true, List, [], ◌∷◌, map, IfSome, Ok, Vec, vec_items, vec_len, string_bytes, codes, Option, Some, None, bit_or}
+use Rattle.std.specs.List.{AllByRecursion, fold, list_any}
+use Rattle.std.specs.Str.{bytes_eq}
 use Rattle.std.specs.declared.alloc.Global.{Global}
+use Rattle.rules.specs.declared.ask.Ask.TheVariants as asks
+use Rattle.rules.specs.declared.ask.Question.{Question}
+use Rattle.rules.specs.declared.ask.Question.TheVariants.{Unused, Controls, Access, ReadRow}
+use Rattle.rules.specs.declared.call.Call.{Call}
+use Rattle.rules.specs.declared.call.Call.TheVariants.{Assign, Deassign, SetRange, SetLocks, GenKey, Erase, Reactivate, Create, Delete, Format, Reset}
+use Rattle.rules.specs.declared.row.Flags.{Flags}
 use Rattle.script.specs.Line.{words_of}
-use Rattle.script.specs.Spelling.{numbering_word, vault_word}
+use Rattle.script.specs.Spelling.{access_word, numbering_word, standing_words, vault_word, where_true}
 use Rattle.script.specs.Number.{read, fitted}
-use Rattle.script.specs.declared.calls.Call.{Call}
-use Rattle.script.specs.declared.calls.Call.TheVariants as call
-use Rattle.script.specs.declared.calls.Query.{Query}
-use Rattle.script.specs.declared.calls.Query.TheVariants.{Create, Delete, Controls, Unused, ReadRow}
+use Rattle.script.specs.declared.calls.Order.{Order}
+use Rattle.script.specs.declared.calls.Order.TheVariants as orders
 use Rattle.script.specs.declared.calls.Layout.{Layout}
 use Rattle.script.specs.declared.calls.Source.{Source}
 use Rattle.script.specs.declared.calls.Source.TheVariants.{Fresh, Sheet}
 use Rattle.script.specs.declared.calls.Line.{Line}
+use Rattle.script.specs.declared.kinds.NumberingKind.{NumberingKind}
+use Rattle.script.specs.declared.kinds.VaultKind.{VaultKind}
 use Rattle.script.specs.declared.calls.Script.{Script}
 
 -- the word writes a number of 32 or of 64 bits
@@ -31,25 +38,76 @@ abbrev pub NamesCaller : ℕ → List (List ℕ) → List (List ℕ) → Type 0
 NamesCaller zero ws left = ws ≡ codes "admins" ∷ left
 NamesCaller (suc n) ws left = (u : List ℕ) × (ws ≡ codes "user" ∷ u ∷ left) × Writes32 u (suc n)
 
--- the words ws begin with the query, and the words left follow
-abbrev pub Asks : Query → List (List ℕ) → List (List ℕ) → Type 0
-Asks (Create unit blocks) ws left =
-    (u : List ℕ) × (b : List ℕ) × (ws ≡ codes "create" ∷ u ∷ b ∷ left) × Writes32 u unit × Writes64 b blocks
-Asks (Delete unit) ws left = (u : List ℕ) × (ws ≡ codes "delete" ∷ u ∷ left) × Writes32 u unit
-Asks (Controls unit block) ws left =
-    (u : List ℕ) × (b : List ℕ) × (ws ≡ codes "controls" ∷ u ∷ b ∷ left) × Writes32 u unit × Writes64 b block
-Asks Unused ws left = ws ≡ codes "unused" ∷ left
-Asks (ReadRow caller row) ws left = (r : List ℕ) × NamesCaller caller ws (codes "read-row" ∷ r ∷ left) × Writes32 r row
+-- they begin with the caller where there is one, and else none of them does
+abbrev pub CalledBy : Option ℕ → List (List ℕ) → List (List ℕ) → Type 0
+CalledBy None ws left = left ≡ ws
+CalledBy (Some caller) ws left = NamesCaller caller ws left
 
--- the words ws begin with the call, and the words left follow
-abbrev pub Says : Call → List (List ℕ) → List (List ℕ) → Type 0
-Says (call.Query query) ws left = Asks query ws left
-Says call.Describe ws left = ws ≡ codes "describe" ∷ left
-Says (call.Save path) ws left = ws ≡ codes "save" ∷ path.now ∷ left
+-- the word stands among the words
+abbrev pub stands : List ℕ → List (List ℕ) → Bool
+stands w ws = list_any (bytes_eq w) ws
 
--- the words ws, after any that name the caller, say the call
-abbrev pub SaysBy : ℕ → Call → List (List ℕ) → List (List ℕ) → Type 0
-SaysBy caller k ws left = (all : List (List ℕ)) → NamesCaller caller all ws → Says k all left
+-- it names a flag
+abbrev pub is_flag : List ℕ → Bool
+is_flag w = stands w (codes "read-enabled" ∷ codes "write-enabled" ∷ codes "read-locked" ∷ codes "write-locked" ∷ codes "lock-on-reset" ∷ [])
+
+-- each of the words names a flag; the flags that are named are true, and the others false
+abbrev pub NameFlags : List (List ℕ) → Flags → Type 0
+NameFlags ws flags =
+    AllByRecursion (λ w. is_flag w ≡ true) ws
+    × (flags.read_lock_enabled ≡ stands (codes "read-enabled") ws)
+    × (flags.write_lock_enabled ≡ stands (codes "write-enabled") ws)
+    × (flags.read_locked ≡ stands (codes "read-locked") ws)
+    × (flags.write_locked ≡ stands (codes "write-locked") ws)
+    × (flags.lock_on_reset ≡ stands (codes "lock-on-reset") ws)
+
+-- the words name the rows of the selection, whose bit r is for row r
+abbrev pub NameRows : List (List ℕ) → ℕ → Type 0
+NameRows ws selection =
+    (rows : List ℕ) × WriteAll32 ws rows × AllByRecursion (λ row. row < 32) rows × (selection ≡ fold (λ bits row. bit_or bits (2 ^ row)) 0 rows)
+
+-- the words ws, after any that name the caller `by`, say the call: a method has a caller, and a command has none
+abbrev pub SaysCall : Option ℕ → Call → List (List ℕ) → Type 0
+SaysCall by (Assign caller unit start length standing) ws =
+    (by ≡ Some caller) × (u : List ℕ) × (s : List ℕ) × (l : List ℕ) × (ws ≡ codes "assign" ∷ u ∷ s ∷ l ∷ standing_words standing)
+    × Writes32 u unit × Writes64 s start × Writes64 l length
+SaysCall by (Deassign caller row keep) ws =
+    (by ≡ Some caller) × (r : List ℕ) × (ws ≡ codes "deassign" ∷ r ∷ where_true keep (codes "keep")) × Writes32 r row
+SaysCall by (SetRange caller row start length) ws =
+    (by ≡ Some caller) × (r : List ℕ) × (s : List ℕ) × (l : List ℕ) × (ws ≡ codes "set-range" ∷ r ∷ s ∷ l ∷ [])
+    × Writes32 r row × Writes64 s start × Writes64 l length
+SaysCall by (SetLocks caller row flags) ws =
+    (by ≡ Some caller) × (r : List ℕ) × (fs : List (List ℕ)) × (ws ≡ codes "set-locks" ∷ r ∷ fs) × Writes32 r row × NameFlags fs flags
+SaysCall by (GenKey caller row) ws = (by ≡ Some caller) × (r : List ℕ) × (ws ≡ codes "gen-key" ∷ r ∷ []) × Writes32 r row
+SaysCall by (Erase caller row) ws = (by ≡ Some caller) × (r : List ℕ) × (ws ≡ codes "erase" ∷ r ∷ []) × Writes32 r row
+SaysCall by (Reactivate caller selection policy) ws =
+    (by ≡ Some caller) × (p : List ℕ) × (rs : List (List ℕ)) × (ws ≡ codes "reactivate" ∷ p ∷ rs) × Writes32 p policy × NameRows rs selection
+SaysCall by (Create unit blocks) ws =
+    (by ≡ None) × (u : List ℕ) × (b : List ℕ) × (ws ≡ codes "create" ∷ u ∷ b ∷ []) × Writes32 u unit × Writes64 b blocks
+SaysCall by (Delete unit) ws = (by ≡ None) × (u : List ℕ) × (ws ≡ codes "delete" ∷ u ∷ []) × Writes32 u unit
+SaysCall by (Format unit) ws = (by ≡ None) × (u : List ℕ) × (ws ≡ codes "format" ∷ u ∷ []) × Writes32 u unit
+SaysCall by (Reset caller) ws = (by ≡ Some caller) × (ws ≡ codes "reset" ∷ [])
+
+-- the same of a question: reading a row is a method
+abbrev pub SaysQuestion : Option ℕ → Question → List (List ℕ) → Type 0
+SaysQuestion by Unused ws = (by ≡ None) × (ws ≡ codes "unused" ∷ [])
+SaysQuestion by (Controls unit block) ws =
+    (by ≡ None) × (u : List ℕ) × (b : List ℕ) × (ws ≡ codes "controls" ∷ u ∷ b ∷ []) × Writes32 u unit × Writes64 b block
+SaysQuestion by (Access access unit start count) ws =
+    (by ≡ None) × (u : List ℕ) × (f : List ℕ) × (c : List ℕ) × (ws ≡ codes "access" ∷ access_word access ∷ u ∷ f ∷ c ∷ [])
+    × Writes32 u unit × Writes64 f start × Writes64 c count
+SaysQuestion by (ReadRow caller row) ws = (by ≡ Some caller) × (r : List ℕ) × (ws ≡ codes "read-row" ∷ r ∷ []) × Writes32 r row
+
+-- the same of whatever a line wants of the table
+abbrev pub SaysBy : Option ℕ → Order → List (List ℕ) → Type 0
+SaysBy by (orders.Ask (asks.Call call)) ws = SaysCall by call ws
+SaysBy by (orders.Ask (asks.Question question)) ws = SaysQuestion by question ws
+SaysBy by orders.Describe ws = (by ≡ None) × (ws ≡ codes "describe" ∷ [])
+SaysBy by (orders.Save path) ws = (by ≡ None) × (ws ≡ codes "save" ∷ path.now ∷ [])
+
+-- the words of a line say what it wants of the table
+abbrev pub Says : Order → List (List ℕ) → Type 0
+Says order ws = (by : Option ℕ) × (left : List (List ℕ)) × CalledBy by ws left × SaysBy by order left
 
 -- the words list the serials that the vault holds, no more than the capacity; no word stands where it holds the sheet's own
 abbrev pub Holds : ℕ → Option (Vec ℕ Global) → List (List ℕ) → Type 0
@@ -58,9 +116,9 @@ Holds capacity (Some serials) ws =
     (ss : List (List ℕ)) × (ws ≡ codes "holding" ∷ ss) × WriteAll32 ss (vec_items serials) × (vec_len serials ≤ capacity)
 
 -- the words ws begin with the drive's numbering, its vault and the capacity, and the words left follow
-abbrev pub NamesDrive : Layout → List (List ℕ) → List (List ℕ) → Type 0
-NamesDrive l ws left =
-    (c : List ℕ) × (ws ≡ numbering_word l.numbering ∷ vault_word l.vault ∷ c ∷ left) × Writes32 c l.capacity
+abbrev pub NamesDrive : NumberingKind → VaultKind → ℕ → List (List ℕ) → List (List ℕ) → Type 0
+NamesDrive numbering vault capacity ws left =
+    (c : List ℕ) × (ws ≡ numbering_word numbering ∷ vault_word vault ∷ c ∷ left) × Writes32 c capacity
 
 -- the keyword of a layout call, and the words that follow the capacity, say what the table begins with
 abbrev pub BeginsWith : Source → ℕ → List ℕ → List (List ℕ) → Type 0
@@ -71,11 +129,11 @@ BeginsWith (Sheet path holding) capacity keyword ws =
 -- the words of a line say the layout
 abbrev pub LaysOut : Layout → List (List ℕ) → Type 0
 LaysOut l [] = ⊥
-LaysOut l (w ∷ ws) = (left : List (List ℕ)) × NamesDrive l ws left × BeginsWith l.source l.capacity w left
+LaysOut l (w ∷ ws) = (left : List (List ℕ)) × NamesDrive l.numbering l.vault l.capacity ws left × BeginsWith l.source l.capacity w left
 
 -- the words that are kept of each call say that call, and those of the layout say the layout
 abbrev pub LineSays : Line → Type 0
-LineSays l = Says l.call (words_of (string_bytes l.words)) []
+LineSays l = Says l.order (words_of (string_bytes l.words))
 
 -- (by recursion on the lines, since the search does not carry `All` over a push)
 abbrev pub Faithful : Script → Type 0

@@ -1,7 +1,11 @@
 -- How each word of a script is spelled.
-use Rattle.std.specs.Prelude.{◌≡◌, ℕ, List, codes, Option, Result, MatchOption, ◌≢◌}
+use Rattle.std.specs.Prelude.{◌≡◌, ℕ, Bool, cond, List, [], ◌∷◌, codes, Option, Result, MatchOption, ◌≢◌}
 use Rattle.std.specs.Result.{result_ok}
 use Rattle.std.specs.Borrow.{Bor}
+use Rattle.rules.specs.declared.access.Access.{Access}
+use Rattle.rules.specs.declared.access.Access.TheVariants.{Read, Write}
+use Rattle.rules.specs.declared.row.Standing.{Standing}
+use Rattle.rules.specs.declared.row.Standing.TheVariants.{Shared, SingleUser}
 use Rattle.script.specs.declared.keywords.Keyword.{Keyword}
 use Rattle.script.specs.declared.keywords.Keyword.TheVariants as keyword
 use Rattle.script.specs.declared.keywords.Method.{Method}
@@ -44,6 +48,18 @@ numbering_word Scsi = codes "scsi"
 abbrev pub vault_word : VaultKind → List ℕ
 vault_word Chip = codes "chip"
 vault_word File = codes "file"
+
+abbrev pub access_word : Access → List ℕ
+access_word Read = codes "read"
+access_word Write = codes "write"
+
+-- a word that stands there or is left out
+abbrev pub where_true : Bool → List ℕ → List (List ℕ)
+where_true b word = cond b (word ∷ []) []
+
+abbrev pub standing_words : Standing → List (List ℕ)
+standing_words Shared = []
+standing_words SingleUser = codes "single" ∷ []
 
 -- the result is what the text spells, and none where nothing is spelled so
 abbrev pub Spelled : {K : Type 0} → (K → List ℕ) → List ℕ → Option K → Type 0

@@ -1,14 +1,13 @@
 //! What can be wrong with a line.
 use std::alloc::AllocError;
+use std::fmt;
 use thiserror::Error;
 
 /// What is wrong with a line. A word that is to blame is a part of the script's text.
-#[derive(Clone, Copy, Debug, Error)]
+#[derive(Clone, Copy, Error)]
 pub enum Fault<'a> {
-    #[error("`{0}` is no word of a script")]
+    #[error("`{0}` is no word that can stand here")]
     UnknownWord(&'a str),
-    #[error("`{0}` is not built yet")]
-    NotBuilt(&'a str),
     #[error("`{0}` needs its caller first, `admins` or `user N`")]
     NeedsCaller(&'a str),
     #[error("`{0}` takes no caller")]
@@ -31,4 +30,11 @@ pub enum Fault<'a> {
     LayoutTwice,
     #[error("there is not enough memory")]
     NoMemory(#[from(alloc)] AllocError),
+}
+
+/// The message itself, which is far shorter to prove than the derived form.
+impl fmt::Debug for Fault<'_> {
+    fn fmt<W: fmt::Write>(&self, f: &mut fmt::Formatter<W>) -> fmt::Result {
+        fmt::Display::fmt(self, f)
+    }
 }

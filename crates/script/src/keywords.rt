@@ -55,7 +55,7 @@ impl<'a> TryFrom<&'a str> for Keyword {
             "unused" => Keyword::Unused,
             "describe" => Keyword::Describe,
             "save" => Keyword::Save,
-            _ => Keyword::Method(Method::try_from(word)?),
+            _ => return Method::try_from(word).map(Keyword::Method),
         })
     }
 }

@@ -4,7 +4,7 @@ ghost use Rattle.script.specs.Spelling.{Reads, numbering_word, vault_word};
 use crate::fault::Fault;
 
 /// How the drive numbers its units.
-#[derive(Clone, Copy, Debug, PartialEq, Eq)]
+#[derive(Clone, Copy, PartialEq, Eq)]
 pub enum NumberingKind {
     Nvme,
     Scsi,
@@ -26,7 +26,7 @@ impl<'a> TryFrom<&'a str> for NumberingKind {
 }
 
 /// Where the drive keeps its keys.
-#[derive(Clone, Copy, Debug, PartialEq, Eq)]
+#[derive(Clone, Copy, PartialEq, Eq)]
 pub enum VaultKind {
     Chip,
     File,

@@ -4,7 +4,7 @@ ghost use Rattle.script.specs.Number.{numeral, read_in, read, fitted};
 ghost use Rattle.script.specs.declared.numbers.NumberFault.{NumberFault};
 
 /// Why a word is not a number that can be used.
-#[derive(Clone, Copy, Debug, PartialEq, Eq)]
+#[derive(Clone, Copy, PartialEq, Eq)]
 pub enum NumberFault {
     NotANumber,
     TooLarge,

@@ -1,8 +1,9 @@
 //! The words of a line, one after the other.
-ghost use Rattle.std.specs.Prelude.{◌≡◌, [], IfOk, string_bytes, MatchResult, IsErr, ◌≢◌, List, ℕ, vec_items};
+ghost use Rattle.std.specs.Prelude.{◌≡◌, [], ◌∷◌, IfOk, string_bytes, MatchResult, IsErr, ◌≢◌, List, ℕ, vec_items};
 ghost use Rattle.std.specs.Iterator.{YieldsFirstRef, item_count};
 ghost use Rattle.script.specs.Line.{uncommented, words_of, spaced, Given, Counted};
 ghost use Rattle.script.specs.Says.{WriteAll32};
+ghost use Rattle.script.specs.Spelling.{where_true};
 
 use crate::fault::Fault;
 use crate::numbers::{Number, NumberFault};
@@ -61,12 +62,35 @@ impl<'a> Words<'a> {
     }
 
     /// Refuses a word after the last one that the call takes.
-    pub fn end(&mut self) -> Result<(), Fault<'a>>
-        ensures { MatchResult result (λ _. self.old ≡ []) (λ _. self.old ≢ []) }
+    pub fn end(mut self) -> Result<(), Fault<'a>>
+        ensures { MatchResult result (λ _. self.entry ≡ []) (λ _. self.entry ≢ []) }
     {
         match self.next() {
             Some(word) => Err(Fault::WordTooMany(word)),
             None => Ok(()),
+        }
+    }
+
+    /// A number that has to be there, and ends the line.
+    pub fn last_number<N: Number + Drop>(mut self, what: &'static str) -> Result<N, Fault<'a>>
+        ensures { IfOk result (λ n. (w : List ℕ) × (self.entry ≡ w ∷ []) × (N.written w ≡ Ok n)) }
+    {
+        let number = self.number(what)?;
+        self.end()?;
+        Ok(number)
+    }
+
+    /// Whether the word stands there. Nothing else may, to the end of the line.
+    pub fn ends_with(mut self, mark: &str) -> Result<bool, Fault<'a>>
+        ensures { IfOk result (λ stands. self.entry ≡ where_true stands mark.now) }
+    {
+        match self.next() {
+            None => Ok(false),
+            Some(word) if word == mark => {
+                self.end()?;
+                Ok(true)
+            }
+            Some(word) => Err(Fault::WordTooMany(word)),
         }
     }
 
@@ -91,7 +115,7 @@ impl<'a> Words<'a> {
 }
 
 /// The number that the word writes.
-fn number_of<'a, N: Number>(word: &'a str) -> Result<N, Fault<'a>>
+pub fn number_of<'a, N: Number>(word: &'a str) -> Result<N, Fault<'a>>
     ensures { MatchResult result (λ n. N.written word.now ≡ Ok n) (λ _. IsErr (N.written word.now)) }
 {
     N::parse(word).map_err(|fault| match fault {

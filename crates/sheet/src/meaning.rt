@@ -1,12 +1,12 @@
 //! What the records mean: the rows of a table as records, and back.
 ghost use Rattle.std.specs.Prelude.{◌≡◌, ◌<◌, ◌≤◌, ◌^◌, length};
-ghost use Rattle.rules.specs.Methods.{selected};
-ghost use Rattle.sheet.specs.Loading.{flags_of, kind_said, row_said, standing_in};
+ghost use Rattle.sheet.specs.Loading.{flags_of, kind_said, row_said};
 ghost use Rattle.sheet.specs.Saving.{flag_bits, number_with, record_of};
 
 use crate::records::RowRecord;
+use layout::rows::{is_selected, standing_of};
 use rules::numbering::Bounds;
-use rules::row::{Flags, Kind, Row, RowFields, Standing};
+use rules::row::{Flags, Kind, Row, RowFields};
 
 /// The number that has these bits, bit 0 first.
 pub fn number_with(bits: &[bool]) -> u32
@@ -21,14 +21,6 @@ pub fn number_with(bits: &[bool]) -> u32
             if *bit { higher + 1 } else { higher }
         }
     }
-}
-
-/// Whether the bit is set.
-pub fn selected(number: u32, bit: usize) -> bool
-    requires { bit < 32 }
-    ensures { result ≡ selected number bit }
-{
-    (number >> bit) % 2 == 1
 }
 
 /// The record of a row.
@@ -73,11 +65,11 @@ fn flags_of(word: u32) -> Flags
     ensures { result ≡ flags_of word }
 {
     Flags {
-        read_lock_enabled: selected(word, 0),
-        write_lock_enabled: selected(word, 1),
-        read_locked: selected(word, 2),
-        write_locked: selected(word, 3),
-        lock_on_reset: selected(word, 4),
+        read_lock_enabled: is_selected(word, 0),
+        write_lock_enabled: is_selected(word, 1),
+        read_locked: is_selected(word, 2),
+        write_locked: is_selected(word, 3),
+        lock_on_reset: is_selected(word, 4),
     }
 }
 
@@ -111,14 +103,9 @@ pub fn row_said(index: usize, said: &RowRecord, bounds: Bounds, mask: u32) -> Ro
     requires { index < 17 }
     ensures { result ≡ row_said bounds mask index said.now }
 {
-    let standing = if selected(mask, index) {
-        Standing::SingleUser
-    } else {
-        Standing::Shared
-    };
     Row {
         kind: kind_said(index, said, bounds),
-        standing,
+        standing: standing_of(mask, index),
         flags: flags_of(u32::from(said.flags)),
     }
 }

@@ -1,8 +1,8 @@
 //! Reading a sheet, and what is wrong with it.
-ghost use Rattle.std.specs.Prelude.{◌≡◌, ◌+◌, ◌*◌, ◌<◌, ◌≤◌, not, List, IfOk, IfSome, is_some, length, map, true};
+ghost use Rattle.std.specs.Prelude.{◌≡◌, ◌+◌, ◌*◌, ◌<◌, ◌≤◌, not, List, IfOk, IfSome, is_some, length, true};
 ghost use Rattle.std.specs.Result.{result_err};
-ghost use Rattle.std.specs.List.{enumerate_from, list_any, range_with_len};
-ghost use Rattle.sheet.specs.Format.{header_of, row_at, rows_on, unit_at, units_on};
+ghost use Rattle.std.specs.List.{enumerate_from, list_any};
+ghost use Rattle.sheet.specs.Format.{header_of, rows_on, unit_at, units_on};
 ghost use Rattle.vault.specs.Serials.{distinct};
 ghost use Rattle.rules.specs.Rows.{numbered};
 ghost use Rattle.rules.specs.Sound.{serials};
@@ -17,7 +17,7 @@ use layout::rows::Rows;
 use packed::SortedList;
 use rules::cause::Cause;
 use rules::numbering::Bounds;
-use rules::row::{Kind, Row, Sought};
+use rules::row::{Kind, Sought};
 use rules::unit::LogicalUnit;
 use vault::serials::all_distinct;
 

@@ -3,8 +3,8 @@ ghost use Rattle.std.specs.Prelude.{◌≡◌, ◌+◌, ◌≤◌, ◌<◌, leng
 ghost use Rattle.sheet.specs.Format.{header_fields, header_of, row_at, row_fields, unit_at, unit_fields};
 ghost use Rattle.sheet.specs.Loading.{bad_serial, has_unit_bit, header_is_faulty, is_bare, one_of, row_faults, unit_faults};
 
-use crate::meaning::selected;
 use fields::{Field, be, u16_at, u32_at, u48_at, u64_at};
+use layout::rows::is_selected;
 use rules::numbering::Bounds;
 use rules::unit::LogicalUnit;
 
@@ -176,7 +176,7 @@ impl RowRecord {
     pub fn has_unit_bit(&self) -> bool
         ensures { result ≡ has_unit_bit self.now }
     {
-        selected(u32::from(self.flags), 5)
+        is_selected(u32::from(self.flags), 5)
     }
 
     /// Whether it has no range and no key.

@@ -6,7 +6,7 @@ ghost use Rattle.vault.specs.Meaning.{Meaning};
 ghost use Rattle.fields.specs.Fields.{written};
 ghost use Rattle.layout.specs.View.{drive};
 ghost use Rattle.sheet.specs.Format.{row_bytes, total_beside, unit_bytes};
-ghost use Rattle.sheet.specs.Saving.{filled, header_for, mask_of, record_of, sheet, total_of};
+ghost use Rattle.sheet.specs.Saving.{filled, header_for, mask_of, record_of, sheet};
 
 use crate::meaning::{number_with, record_of};
 use crate::records::{Header, unit_fields};

@@ -3,7 +3,10 @@
 
 pub mod calls;
 pub mod loading;
+mod method_refusals;
 pub mod refusals;
+mod renewals;
 pub mod restoring;
 pub mod session;
 pub mod state;
+mod table_calls;

@@ -9,7 +9,14 @@ use rules::cause::Cause;
 // Only opening makes one, and it is moved, not copied: what ends a session takes it.
 #[derive(Drop)]
 pub struct WritingSession {
-    caller: u32,
+    pub(crate) caller: u32,
+}
+
+/// Why a session was not ended, and the session.
+#[derive(Drop)]
+pub struct Refused {
+    pub cause: Cause,
+    pub session: WritingSession,
 }
 
 /// A session of a caller in which a table can only be looked at.

@@ -1,4 +1,4 @@
-ghost use Rattle.std.specs.Prelude.{◌≡◌, ℕ, Bool, not, [], ◌∷◌};
+ghost use Rattle.std.specs.Prelude.{◌≡◌, not, [], ◌∷◌};
 ghost use Rattle.vault.specs.Checks.{answer, first_of};
 ghost use Rattle.vault.specs.Kinds.{can_be_capacity};
 ghost use Rattle.rules.specs.declared.cause.Cause.TheVariants.{Closed};

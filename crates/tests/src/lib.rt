@@ -2,6 +2,10 @@
 #![tactic(auto)]
 
 #[cfg(test)]
+mod asks;
+#[cfg(test)]
+mod methods;
+#[cfg(test)]
 mod scripts;
 #[cfg(test)]
 mod sheets;

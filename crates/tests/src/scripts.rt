@@ -1,4 +1,8 @@
 //! Scripts that are read, and scripts that are refused.
+use rules::access::Access;
+use rules::ask::{Ask, Question};
+use rules::call::Call;
+use rules::row::{Flags, Standing};
 use script::numbers::{Number, NumberFault};
 use script::*;
 use std::alloc::Global;
@@ -25,11 +29,11 @@ fn numbers_are_decimal_or_hexadecimal(rt: HostRuntime) {
         ("0x1g", Err(NumberFault::NotANumber)),
     ];
     for (word, expected) in cases {
-        assert_eq!(rt; u64::parse(word), expected, "{}", word);
+        assert!(rt; u64::parse(word) == expected, "{word}");
     }
-    assert_eq!(rt; u32::parse("4294967295"), Ok(u32::MAX));
-    assert_eq!(rt; u32::parse("0xffffffff"), Ok(u32::MAX));
-    assert_eq!(rt; u32::parse("4294967296"), Err(NumberFault::TooLarge));
+    assert!(rt; u32::parse("4294967295") == Ok(u32::MAX));
+    assert!(rt; u32::parse("0xffffffff") == Ok(u32::MAX));
+    assert!(rt; u32::parse("4294967296") == Err(NumberFault::TooLarge));
 }
 
 #[test]
@@ -81,57 +85,179 @@ fn a_layout_is_read(rt: HostRuntime) -> Result<(), Fail> {
             capacity: 3,
             source,
         };
-        assert_eq!(rt; script.layout, layout, "{text}");
+        assert!(rt; script.layout == layout, "{text}");
+    }
+    Ok(())
+}
+
+/// What a line of these words asks of the table.
+fn asked(heap: Global, words: &str) -> Result<Ask, Fail> {
+    let text = format!(in heap; "fresh nvme chip 8\n{words}")?;
+    let script = parse(heap, text.as_str())
+        .ok()
+        .ok_or("the script was refused")?;
+    match script.lines.first().ok_or("no line was read")?.order {
+        Order::Ask(ask) => Ok(ask),
+        _ => Err("something else was read")?,
+    }
+}
+
+#[test]
+fn commands_and_questions_are_read(rt: HostRuntime) -> Result<(), Fail> {
+    let access = |access| Question::Access {
+        access,
+        unit: 1,
+        first: 2,
+        count: u64::MAX,
+    };
+    let cases = [
+        (
+            "create 1 1000",
+            Ask::Call(Call::Create {
+                unit: 1,
+                blocks: 1000,
+            }),
+        ),
+        ("delete 0x1", Ask::Call(Call::Delete { unit: 1 })),
+        (
+            "format 4294967295",
+            Ask::Call(Call::Format { unit: u32::MAX }),
+        ),
+        (
+            "controls 4294967295 18446744073709551615",
+            Ask::Question(Question::Controls {
+                unit: u32::MAX,
+                block: u64::MAX,
+            }),
+        ),
+        (
+            "access read 1 2 18446744073709551615",
+            Ask::Question(access(Access::Read)),
+        ),
+        (
+            "access write 1 2 18446744073709551615",
+            Ask::Question(access(Access::Write)),
+        ),
+        ("unused", Ask::Question(Question::Unused)),
+        (
+            "user 18 read-row 0x5",
+            Ask::Question(Question::ReadRow { caller: 18, row: 5 }),
+        ),
+    ];
+    for (words, ask) in cases {
+        assert!(rt; asked(rt.alloc(), words)? == ask, "{words}");
     }
     Ok(())
 }
 
 #[test]
-fn calls_are_read(rt: HostRuntime) -> Result<(), Fail> {
-    let heap = rt.alloc();
+fn methods_are_read(rt: HostRuntime) -> Result<(), Fail> {
+    let assign = |standing| Call::Assign {
+        caller: 0,
+        unit: 3,
+        start: 20,
+        length: u64::MAX,
+        standing,
+    };
     let cases = [
         (
-            "create 1 1000",
-            Call::Query(Query::Create {
-                unit: 1,
-                blocks: 1000,
-            }),
-        ),
-        ("delete 0x1", Call::Query(Query::Delete { unit: 1 })),
-        (
-            "controls 4294967295 18446744073709551615",
-            Call::Query(Query::Controls {
-                unit: u32::MAX,
-                block: u64::MAX,
-            }),
-        ),
-        ("unused", Call::Query(Query::Unused)),
-        (
-            "admins read-row 16",
-            Call::Query(Query::ReadRow { caller: 0, row: 16 }),
+            "admins assign 3 20 18446744073709551615",
+            assign(Standing::Shared),
         ),
         (
-            "user 17 read-row 0x5",
-            Call::Query(Query::ReadRow { caller: 17, row: 5 }),
+            "admins assign 3 20 18446744073709551615 single",
+            assign(Standing::SingleUser),
         ),
         (
-            "user 18 read-row 4294967295",
-            Call::Query(Query::ReadRow {
-                caller: 18,
-                row: u32::MAX,
-            }),
+            "admins deassign 5",
+            Call::Deassign {
+                caller: 0,
+                row: 5,
+                keep: false,
+            },
         ),
-        ("describe", Call::Describe),
-        ("save old/sheet", Call::Save { path: "old/sheet" }),
+        (
+            "user 2 deassign 5 keep",
+            Call::Deassign {
+                caller: 2,
+                row: 5,
+                keep: true,
+            },
+        ),
+        (
+            "admins set-range 4 20 10",
+            Call::SetRange {
+                caller: 0,
+                row: 4,
+                start: 20,
+                length: 10,
+            },
+        ),
+        (
+            "user 17 gen-key 16",
+            Call::GenKey {
+                caller: 17,
+                row: 16,
+            },
+        ),
+        ("user 3 erase 4", Call::Erase { caller: 3, row: 4 }),
+        ("admins reset", Call::Reset { caller: 0 }),
     ];
     for (words, call) in cases {
-        let text = format!(in heap; "fresh nvme chip 8\n{words}")?;
-        let script = parse(heap, text.as_str())
-            .ok()
-            .ok_or("the script was refused")?;
-        assert_eq!(rt; script.lines.len(), 1);
-        assert_eq!(rt; script.lines[0].call, call, "{words}");
+        assert!(rt; asked(rt.alloc(), words)? == Ask::Call(call), "{words}");
     }
+    Ok(())
+}
+
+#[test]
+fn flags_and_rows_are_read_in_any_order(rt: HostRuntime) -> Result<(), Fail> {
+    let set_locks = |enabled, locked, lock_on_reset| Call::SetLocks {
+        caller: 4,
+        row: 7,
+        flags: Flags {
+            read_lock_enabled: enabled,
+            write_lock_enabled: locked,
+            read_locked: locked,
+            write_locked: enabled,
+            lock_on_reset,
+        },
+    };
+    let reactivate = |policy, selection| Call::Reactivate {
+        caller: 0,
+        selection,
+        policy,
+    };
+    let cases = [
+        ("user 4 set-locks 7", set_locks(false, false, false)),
+        (
+            "user 4 set-locks 7 write-locked read-enabled",
+            set_locks(true, false, false),
+        ),
+        (
+            "user 4 set-locks 7 lock-on-reset read-locked write-enabled read-locked",
+            set_locks(false, true, true),
+        ),
+        ("admins reactivate 1", reactivate(1, 0)),
+        (
+            "admins reactivate 4294967295 31 0x0 5 31",
+            reactivate(u32::MAX, 0x8000_0021),
+        ),
+    ];
+    for (words, call) in cases {
+        assert!(rt; asked(rt.alloc(), words)? == Ask::Call(call), "{words}");
+    }
+    Ok(())
+}
+
+#[test]
+fn what_is_answered_with_bytes_is_read(rt: HostRuntime) -> Result<(), Fail> {
+    let text = "fresh nvme chip 8\ndescribe\nsave old/sheet";
+    let script = parse(rt.alloc(), text)
+        .ok()
+        .ok_or("the script was refused")?;
+    assert_eq!(rt; script.lines.len(), 2);
+    assert!(rt; script.lines[0].order == Order::Describe);
+    assert!(rt; script.lines[1].order == Order::Save { path: "old/sheet" });
     Ok(())
 }
 
@@ -148,19 +274,22 @@ fn the_first_call_lays_the_table_out(rt: HostRuntime) -> Result<(), Fail> {
         ("\n# nothing\n", "line 1: the layout call is missing"),
         ("\nunused", "line 2: the layout call is missing"),
         ("admins reset", "line 1: the layout call is missing"),
-        ("frob", "line 1: `frob` is no word of a script"),
+        ("frob", "line 1: `frob` is no word that can stand here"),
         ("fresh", "line 1: NUMBERING is missing"),
         ("fresh nvme", "line 1: VAULT is missing"),
         ("fresh nvme chip", "line 1: CAPACITY is missing"),
         ("fresh nvme#chip 8", "line 1: VAULT is missing"),
-        ("fresh ata chip 8", "line 1: `ata` is no word of a script"),
+        (
+            "fresh ata chip 8",
+            "line 1: `ata` is no word that can stand here",
+        ),
         (
             "fresh nvme\tchip 8",
-            "line 1: `nvme\tchip` is no word of a script",
+            "line 1: `nvme\tchip` is no word that can stand here",
         ),
         (
             "fresh nvme cloud 8",
-            "line 1: `cloud` is no word of a script",
+            "line 1: `cloud` is no word that can stand here",
         ),
         (
             "fresh nvme chip eight",
@@ -208,7 +337,7 @@ fn the_first_call_lays_the_table_out(rt: HostRuntime) -> Result<(), Fail> {
 fn damaged_calls_are_refused(rt: HostRuntime) -> Result<(), Fail> {
     let heap = rt.alloc();
     let cases = [
-        ("frob 1", "line 2: `frob` is no word of a script"),
+        ("frob 1", "line 2: `frob` is no word that can stand here"),
         ("create", "line 2: UNIT is missing"),
         ("create 1", "line 2: BLOCKS is missing"),
         (
@@ -226,13 +355,21 @@ fn damaged_calls_are_refused(rt: HostRuntime) -> Result<(), Fail> {
         ),
         ("controls 1", "line 2: BLOCK is missing"),
         ("unused 1\nfrob", "line 2: `1` is a word too many"),
-        ("unused\n\nfrob", "line 4: `frob` is no word of a script"),
+        (
+            "unused\n\nfrob",
+            "line 4: `frob` is no word that can stand here",
+        ),
         ("describe 1", "line 2: `1` is a word too many"),
         ("save", "line 2: SHEET is missing"),
         ("save old new", "line 2: `new` is a word too many"),
-        ("format 1", "line 2: `format` is not built yet"),
-        ("admins assign 1 0 8", "line 2: `assign` is not built yet"),
-        ("user 4 set-locks 1", "line 2: `set-locks` is not built yet"),
+        (
+            "format 4294967296",
+            "line 2: the number `4294967296` does not fit",
+        ),
+        ("access", "line 2: `read` or `write` is missing"),
+        ("access 1 0 8", "line 2: `1` is no word that can stand here"),
+        ("access read 1 0", "line 2: COUNT is missing"),
+        ("access write 1 0 8 9", "line 2: `9` is a word too many"),
         ("admins", "line 2: the method is missing"),
         ("user", "line 2: N is missing"),
         (
@@ -240,9 +377,10 @@ fn damaged_calls_are_refused(rt: HostRuntime) -> Result<(), Fail> {
             "line 2: a number is expected, and `assign` is none",
         ),
         ("user 0 read-row 1", "line 2: `0` is no user"),
-        ("admins read-row", "line 2: ROW is missing"),
-        ("admins read-row 1 2", "line 2: `2` is a word too many"),
-        ("user 4 frob", "line 2: `frob` is no word of a script"),
+        (
+            "user 4 frob",
+            "line 2: `frob` is no word that can stand here",
+        ),
         ("admins unused", "line 2: `unused` takes no caller"),
         (
             "read-row 1",
@@ -252,6 +390,46 @@ fn damaged_calls_are_refused(rt: HostRuntime) -> Result<(), Fail> {
     for (call, expected) in cases {
         let text = format!(in heap; "fresh nvme chip 8\n{call}")?;
         assert_eq!(rt; refusal(heap, text.as_str())?.as_str(), expected);
+    }
+    Ok(())
+}
+
+#[test]
+fn damaged_methods_are_refused(rt: HostRuntime) -> Result<(), Fail> {
+    let heap = rt.alloc();
+    let cases = [
+        ("assign 1 0", "LENGTH is missing"),
+        ("assign 1 0 8 shared", "`shared` is a word too many"),
+        ("assign 1 0 8 single 9", "`9` is a word too many"),
+        (
+            "assign 1 18446744073709551616 8",
+            "the number `18446744073709551616` does not fit",
+        ),
+        ("deassign 1 keep keep", "`keep` is a word too many"),
+        ("set-range 1 0", "LENGTH is missing"),
+        (
+            "set-range 4294967296 0 8",
+            "the number `4294967296` does not fit",
+        ),
+        ("set-range 1 0 8 9", "`9` is a word too many"),
+        ("set-locks", "ROW is missing"),
+        ("set-locks 1 keep", "`keep` is no word that can stand here"),
+        ("gen-key -1", "a number is expected, and `-1` is none"),
+        ("erase 1 2", "`2` is a word too many"),
+        ("reactivate", "POLICY is missing"),
+        ("reactivate 1 32", "the number `32` does not fit"),
+        (
+            "reactivate 1 4 keep",
+            "a number is expected, and `keep` is none",
+        ),
+        ("reset 1", "`1` is a word too many"),
+        ("read-row", "ROW is missing"),
+        ("read-row 1 2", "`2` is a word too many"),
+    ];
+    for (method, expected) in cases {
+        let text = format!(in heap; "fresh nvme chip 8\nuser 4 {method}")?;
+        let expected = format!(in heap; "line 2: {expected}")?;
+        assert_eq!(rt; refusal(heap, text.as_str())?.as_str(), expected.as_str());
     }
     Ok(())
 }

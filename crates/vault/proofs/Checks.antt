@@ -35,3 +35,8 @@ all-passed (check ∷ checks) e = go check.0 e (all-passed checks)
 pub none-applies : {C : Type 0} (checks : List (Bool × C)) → Passed checks → first_of checks ≡ None
 none-applies [] p = refl
 none-applies (check ∷ checks) p = rw p.0 (none-applies checks p.1)
+
+-- what an accepted call answers
+pub accepted-with : {A C : Type 0} (refusal : Option C) (x y : A) → ◌≡◌ {A = Result A C} (Ok x) (answer refusal y) → (refusal ≡ None) × (x ≡ y)
+accepted-with None x y e = (refl, cc)
+accepted-with (Some c) x y e = absurd (cc)

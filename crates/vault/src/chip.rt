@@ -1,7 +1,7 @@
 ghost use Rattle.vault.specs.Kinds.{chip_check, chip_meaning, chip_new, in_use, overwritten, chip_put, chip_swap, chip_drop};
 ghost use Rattle.vault.specs.Meaning.{sound, put_answer, put_after, swap_answer, swap_after, drop_answer, drop_after};
 ghost use Rattle.vault.specs.Serials.{holds};
-ghost use Rattle.std.specs.Prelude.{◌≡◌, ℕ, ◌≤◌, true, false, [], ◌∷◌, length, take, is_ok};
+ghost use Rattle.std.specs.Prelude.{◌≡◌, ◌≤◌, true, false, [], ◌∷◌, length, take, is_ok};
 
 use crate::refusal::{VaultRefusal, check_drop, check_put, check_swap};
 use crate::serials::all_distinct;

@@ -1,6 +1,6 @@
 ghost use Rattle.vault.specs.Kinds.{file_check, file_new};
 ghost use Rattle.vault.specs.Meaning.{sound};
-ghost use Rattle.std.specs.Prelude.{◌≡◌, ◌≤◌, ℕ, true, []};
+ghost use Rattle.std.specs.Prelude.{◌≡◌, ◌≤◌, true, []};
 
 use crate::refusal::{VaultRefusal, check_drop, check_put, check_swap};
 use crate::{KeySet, Vault};

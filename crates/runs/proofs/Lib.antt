@@ -1,0 +1,5 @@
+pub mod Prefixes
+pub mod Making
+pub mod Kept
+pub mod Capacity
+pub mod Registers

@@ -1,0 +1,8 @@
+use Rattle.runs.specs.Steps.{calls_of}
+use Rattle.runs.proofs.Kept.{by-the-rules}
+use Rattle.runs.proofs.run.run.Goals as goal
+
+pub returns-clause-by_the_rules : goal.returns-clause-by_the_rules
+returns-clause-by_the_rules g c =
+    by-the-rules g.N.Numbering.BOUNDS (g.V.KeySet.meaning c.args.vault.now) c.args.source _ (calls_of c.args.steps.now) _ _
+    c.lay_out-table.ensures.model c.lay_out-table.ensures.begins c.make_all.ensures.answers c.make_all.ensures.last

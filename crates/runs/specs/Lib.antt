@@ -1,0 +1,4 @@
+pub mod LayingOut
+pub mod Steps
+pub mod Runs
+pub mod Promises
