@@ -2,9 +2,9 @@ use rules::ask::{Ask, Question, Told};
 use rules::numbering::Bounds;
 use rules::row::{Kind, Row};
 use rules::unit::LogicalUnit;
+use shown::{ShownReply, ShownRow};
 use std::alloc::{AllocError, Global};
 use std::fmt;
-use shown::{ShownReply, ShownRow};
 use table::calls::Calls;
 
 /// The keys of the table: the units' in rising order, then the range rows'.

@@ -2,8 +2,8 @@ use rules::access::Access;
 use rules::ask::{Ask, Question};
 use rules::call::Call;
 use rules::row::Standing;
-use std::fmt;
 use shown::Shown;
+use std::fmt;
 
 /// A call or a question in the words of a script: who calls, its name, and what it is called with. Each has a form of its own.
 #[derive(Clone, Copy)]
