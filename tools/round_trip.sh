@@ -1,7 +1,7 @@
 #!/usr/bin/env bash
 # Rehearses over files, which the gate's own run of the program cannot: it makes one run, and a load comes after a save.
 # What is loaded and saved again has to be the same bytes. Each script NAME.txt has to print NAME.stdout, and end well; or
-# to end with status 1 and tell NAME.stderr. Says nothing where all is well.
+# to end with status 1, tell NAME.stderr and print NAME.stdout. Says nothing where all is well.
 # round_trip.sh [PROGRAM]: by default the program that the check of the crate built last.
 set -euo pipefail
 tools=$(cd "$(dirname "$0")" && pwd)
@@ -24,10 +24,25 @@ prints() {
     diff said "$1.stdout" >&2 || fail "$1.txt does not print what it has to"
 }
 
-# refused: the script cannot be rehearsed to its end, and the message says why
+# refused: the script cannot be rehearsed to its end, and the message says why. What was answered before is printed, and no closing report
 refused() {
-    "$program" "$1.txt" >said 2>told && fail "$1.txt was rehearsed to its end"
+    ends_with_1 "$1.txt"
     diff told "$1.stderr" >&2 || fail "$1.txt does not tell what it has to"
+    diff said "$1.stdout" >&2 || fail "$1.txt does not print what it has to"
+}
+
+# ends_with_1: called with these words, the program ends with status 1
+ends_with_1() {
+    local status=0
+    "$program" "$@" >said 2>told || status=$?
+    [ $status = 1 ] || fail "called with \`$*\`, it ended with status $status"
+}
+
+# no_script: called with these words it has no script, so it prints nothing, and one message says why
+no_script() {
+    ends_with_1 "$@"
+    [ ! -s said ] || fail "called with \`$*\`, it printed answers"
+    [ "$(wc -l <told)" = 1 ] || fail "called with \`$*\`, it told no single message"
 }
 
 same() {
@@ -45,14 +60,17 @@ done
 prints commissioning
 prints next_day
 same commissioned.sheet next_day.sheet
+# a new file of that name is written over, were it longer, and where a link stands it takes the place of the link
+head -c 1000 /dev/zero >cut_again.sheet.new
+ln -s elsewhere.sheet cut_later.sheet
 prints cut
 same cut.sheet cut_again.sheet
+[ ! -e elsewhere.sheet ] && [ ! -L cut_later.sheet ] || fail "a sheet was written where a link leads"
 prints cut_later
 prints other_keys
 prints no_room
 prints short
 refused no_sheet
-[ ! -s said ] || fail "a call was made before no.sheet was read"
 refused no_folder
 mkdir folder
 refused folder
@@ -60,6 +78,13 @@ refused folder
 ln -s /dev/full cut.sheet.new
 refused full
 same cut.sheet cut_again.sheet
-for left in *.new other_keys.sheet; do
+# no script, as a file or as standard input
+"$program" <commissioning.txt >said 2>told || fail "standard input ended with status $?: $(cat told)"
+diff said commissioning.stdout >&2 || fail "standard input does not print what commissioning.txt does"
+no_script no_script.txt
+[[ $(<told) == *no_script.txt* ]] || fail "the message does not name the script that is not there"
+no_script <folder
+no_script cut.txt commissioning.txt
+for left in *.new later.sheet other_keys.sheet; do
     [ ! -e "$left" ] || fail "$left was left behind"
 done

@@ -1,7 +1,6 @@
 -- The drives that the sequences start from, and those between the stages: units with their keys, rows, the next serial, the keys that are held.
 use Rattle.std.specs.Prelude.{ℕ, true, false, List, [], ◌∷◌, replicate}
 use Rattle.vault.specs.Meaning.{Meaning}
-use Rattle.rules.specs.declared.numbering.Bounds.{Bounds}
 use Rattle.rules.specs.declared.row.Flags.{Flags}
 use Rattle.rules.specs.declared.row.Kind.{Kind}
 use Rattle.rules.specs.declared.row.Kind.TheVariants.{UnitRow, RangeRow}
@@ -11,12 +10,7 @@ use Rattle.rules.specs.declared.unit.LogicalUnit.{LogicalUnit}
 use Rattle.rules.specs.Drive.{Drive}
 use Rattle.rules.specs.LayingOut.{fresh}
 use Rattle.rules.specs.Rows.{blank, free_row, global_row}
-
-abbrev pub nvme : Bounds
-nvme = record { mark = 0; first = 1; last = 0xFFFF_FFFE; code = 1 }
-
-abbrev pub scsi : Bounds
-scsi = record { mark = 0xFFFF_FFFF; first = 0; last = 0xFFFF_FFFE; code = 2 }
+use Rattle.rules.specs.Units.{nvme, scsi}
 
 abbrev pub empty_vault : Meaning
 empty_vault = record { capacity = 15; held = [] }

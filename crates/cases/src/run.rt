@@ -1,6 +1,7 @@
 ghost use Rattle.std.specs.Prelude.{◌≡◌, ◌↔◌, IsTrue};
 ghost use Rattle.rules.specs.Asks.{reply_to, left_by};
 
+use crate::sequence::Step;
 use rules::ask::{Ask, Reply, Told};
 use runs::make::{make, reply};
 use table::calls::Calls;
@@ -22,4 +23,16 @@ pub fn is_same(came: Reply, listed: Reply) -> bool
     ensures { IsTrue result ↔ (came ≡ listed) }
 {
     came == listed
+}
+
+/// Makes a step on two tables, and says whether its reply came on both.
+pub fn is_met_on_both<A: Calls, B: Calls>(one: &mut A, other: &mut B, step: Step) -> bool
+    ensures lent { (A.lenders one.new ≡ A.lenders one.old) × (B.lenders other.new ≡ B.lenders other.old) }
+    ensures met { IsTrue result ↔ ((reply_to (A.model one.old) step.ask ≡ step.reply) × (reply_to (B.model other.old) step.ask ≡ step.reply)) }
+    ensures one { A.model one.new ≡ left_by (A.model one.old) step.ask }
+    ensures other { B.model other.new ≡ left_by (B.model other.old) step.ask }
+{
+    let came = ask(one, step.ask);
+    let came_too = ask(other, step.ask);
+    is_same(came, step.reply) && is_same(came_too, step.reply)
 }

@@ -2,7 +2,7 @@
 use Rattle.std.proofs.Common.{◌≡◌, ℕ, ◌+◌, ◌^◌, ◌<◌, ◌≤◌, List, [], ◌∷◌, ◌++◌, length, take, drop, refl, ap, ◌∙◌, arith}
 use Rattle.std.proofs.Math.Seq.{take-add}
 use Rattle.std.proofs.lemmas.Grind.{flat_map-append}
-use Rattle.std.proofs.lemmas.List.{append-nil, append_assoc, drop-drop, length-append}
+use Rattle.std.proofs.lemmas.List.{append_assoc, drop-drop, length-append}
 use Rattle.std.proofs.lemmas.List.Sums.{sum_by-cons}
 use Rattle.std.specs.List.{sum}
 use Rattle.byteorder.specs.Endian.{big_bytes}
@@ -20,10 +20,6 @@ length-bytes_of (f ∷ fs) =
 pub bytes_of-append : (fs gs : List Field) → bytes_of (fs ++ gs) ≡ bytes_of fs ++ bytes_of gs
 unfolding bytes_of
 bytes_of-append fs gs = flat_map-append bytes_of_field fs gs
-
-pub bytes_of-push : (fs : List Field) (f : Field) → bytes_of (fs ++ f ∷ []) ≡ bytes_of fs ++ bytes_of_field f
-unfolding bytes_of
-bytes_of-push fs f = bytes_of-append fs (f ∷ []) ∙ ap (λ s. bytes_of fs ++ s) (append-nil (bytes_of_field f))
 
 -- a field is read back from behind those before it
 pub number_at-bytes_of : (fs gs : List Field) (k n : ℕ) (rest : List ℕ) → n < 256 ^ k

@@ -34,12 +34,6 @@ module _ {A : Type 0} (enc : A → List ℕ) (dec : List ℕ → A) (k : ℕ) wh
         → map (λ i. dec (drop (at + k * i) s)) (range_with_len 0 (length xs)) ≡ xs
     records-read-at at s rest xs fit here = read-from 0 at s rest xs fit (rw (first_place at k) here)
 
-    pub records-read : (front rest : List ℕ) (xs : List A) → AllByRecursion Fit xs
-        → map (λ i. dec (drop (length front + k * i) (front ++ flat_map enc xs ++ rest))) (range_with_len 0 (length xs)) ≡ xs
-    records-read front rest xs fit =
-        let row = flat_map enc xs in
-        records-read-at (length front) (front ++ row ++ rest) rest xs fit (rw (append_assoc front row rest) (drop-append_seam front (row ++ rest)))
-
   module _ (writes : (t : List ℕ) → IsBytes t → k ≤ length t → enc (dec t) ≡ take k t) where
     back-from : (n a at : ℕ) (s : List ℕ) → IsBytes s → at + k * (a + n) ≤ length s
         → flat_map enc (map (λ i. dec (drop (at + k * i) s)) (range_with_len a n)) ≡ take (k * n) (drop (at + k * a) s)

@@ -1,5 +1,6 @@
 -- The numbers of the rows that are looked for, as far as a loop over the rows has come.
 use Rattle.std.proofs.Common.{◌≡◌, ℕ, zero, suc, ◌+◌, ◌<◌, Bool, true, false, cond, List, [], ◌∷◌, ◌++◌, filter, get_or, length, map, take, sym, refl, ap, ◌∙◌, arith}
+use Rattle.std.proofs.lemmas.Bool.Decides.{nat_tests}
 use Rattle.std.proofs.lemmas.List.{map-append}
 use Rattle.std.proofs.lemmas.List.Elements.{filter_more}
 use Rattle.std.proofs.lemmas.List.FromFn.{length-enumerate_from, get_or-enumerate_from}
@@ -25,11 +26,7 @@ module _ (w : Sought) where
   alone entry = cond (suits w entry.1) (entry ∷ []) []
 
   number-alone : (entry : ℕ × Row) → numbers (alone entry) ≡ cond (suits w entry.1) (entry.0 ∷ []) []
-  number-alone entry = go (suits w entry.1)
-    where
-      go : (b : Bool) → numbers (cond b (entry ∷ []) []) ≡ cond b (entry.0 ∷ []) []
-      go true = refl
-      go false = refl
+  number-alone entry = grind (arith, nat_tests)
 
   -- the row with number i is among them where it is looked for
   pub all_rows-more : (rows : List Row) (i : ℕ) (d : Row) → i < length rows → all_rows w (take (i + 1) rows) ≡ all_rows w (take i rows) ++ cond (suits w (get_or rows i d)) (i ∷ []) []

@@ -1,5 +1,6 @@
 -- A search over the rows of some sort, by their numbers and one by one.
-use Rattle.std.proofs.Common.{◌≡◌, suc, Bool, true, false, cond, ◌&&◌, ◌||◌, List, [], ◌∷◌, map, refl, ap, ◌∙◌}
+use Rattle.std.proofs.Common.{◌≡◌, suc, Bool, true, false, cond, ◌&&◌, ◌||◌, List, [], ◌∷◌, map, refl, ap, ◌∙◌, arith}
+use Rattle.std.proofs.lemmas.Bool.Decides.{nat_tests}
 use Rattle.std.specs.List.{list_any}
 use Rattle.rules.specs.declared.row.Row.{Row}
 use Rattle.rules.specs.declared.row.Sought.{Sought}
@@ -14,9 +15,6 @@ any-map test f (x ∷ xs) = ap (λ b. test (f x) || b) (any-map test f xs)
 pub any-of-rows : (w : Sought) (test : Row → Bool) (rows : List Row) → list_any (λ r. test (row r rows)) (all_rows w rows) ≡ list_any (λ r. suits w r && test r) rows
 unfolding all_rows
 any-of-rows w test [] = refl
-any-of-rows w test (r ∷ rs) = ap (list_any (λ n. test (row n (r ∷ rs)))) (all-more w r rs) ∙ go (suits w r) (any-map (λ n. test (row n (r ∷ rs))) suc (all_rows w rs) ∙ any-of-rows w test rs)
-  where
-    go : (b : Bool) → list_any (λ n. test (row n (r ∷ rs))) (map suc (all_rows w rs)) ≡ list_any (λ s. suits w s && test s) rs
-        → list_any (λ n. test (row n (r ∷ rs))) (cond b (0 ∷ map suc (all_rows w rs)) (map suc (all_rows w rs))) ≡ ((b && test r) || list_any (λ s. suits w s && test s) rs)
-    go true later = ap (λ b. test r || b) later
-    go false later = later
+any-of-rows w test (r ∷ rs) =
+    let later = any-map (λ n. test (row n (r ∷ rs))) suc (all_rows w rs) ∙ any-of-rows w test rs in
+    ap (list_any (λ n. test (row n (r ∷ rs)))) (all-more w r rs) ∙ grind (arith, nat_tests)

@@ -64,12 +64,11 @@ impl Layout {
         ensures rows { self.new.rows ≡ (rekeyed self.old.next holder (content self.old)).rows }
         ensures rest { (self.new.next ≡ self.old.next + 1) × (self.new.policy ≡ self.old.policy) }
     {
-        let serial = self.next;
+        let serial = self.fresh_serial();
         match holder {
             Holder::TheUnit { number } => rekey_unit(&mut self.units, number, serial),
             Holder::TheRow { row } => rekey_row(&mut self.rows, row as usize, serial),
         }
-        self.next = serial + 1;
     }
 }
 

@@ -1,6 +1,5 @@
 -- Laws of lists that rise by number.
-use Rattle.std.proofs.Common.{◌≡◌, ℕ, suc, ◌≤◌, Bool, true, false, cond, ◌&&◌, ◌||◌, eqb, leb, List, [], ◌∷◌, length, get_or, set, is_some, Some, None, sym, refl, ap, ◌∙◌, arith}
-use Rattle.std.proofs.lemmas.Bool.{eqb-true}
+use Rattle.std.proofs.Common.{◌≡◌, ℕ, suc, ◌≤◌, true, false, ◌||◌, eqb, List, [], ◌∷◌, length, get_or, set, is_some, Some, None, refl, ap, ◌∙◌, arith}
 use Rattle.std.proofs.lemmas.Bool.Decides.{nat_tests}
 use Rattle.std.specs.List.{list_any, remove as removed}
 use Rattle.packed.specs.First.{first}
@@ -51,42 +50,24 @@ module _ {A : Type 0} (key : A → ℕ) where
   pub has-lookup : (k : ℕ) (xs : List A) → is_some (lookup key k xs) ≡ has key k xs
   unfolding lookup has
   has-lookup k [] = refl
-  has-lookup k (x ∷ xs) = go (eqb (key x) k) (has-lookup k xs)
-    where
-      go : (b : Bool) → is_some (lookup key k xs) ≡ has key k xs → is_some (cond b (Some x) (lookup key k xs)) ≡ (b || has key k xs)
-      go true h = refl
-      go false h = h
+  has-lookup k (x ∷ xs) = let h = has-lookup k xs in grind (arith, nat_tests)
 
-  -- a new element in the place of the one with its number
-  pub rises-replace : (new : A) (low : ℕ) (xs : List A) → rises key low (change key (key new) (λ _. new) xs) ≡ rises key low xs
+  -- the one with this number is changed, which keeps its number
+  pub rises-change : (k : ℕ) (f : A → A) → ((x : A) → key x ≡ k → key (f x) ≡ key x) → (low : ℕ) (xs : List A) → rises key low (change key k f xs) ≡ rises key low xs
   unfolding rises change
-  rises-replace new low [] = refl
-  rises-replace new low (x ∷ xs) = go (eqb (key x) (key new)) refl (rises-replace new (suc (key x)) xs)
-    where
-      go : (b : Bool) → eqb (key x) (key new) ≡ b → rises key (suc (key x)) (change key (key new) (λ _. new) xs) ≡ rises key (suc (key x)) xs
-          → rises key low (cond b (new ∷ xs) (x ∷ change key (key new) (λ _. new) xs)) ≡ (leb low (key x) && rises key (suc (key x)) xs)
-      go true e ih = ap (λ m. leb low m && rises key (suc m) xs) (sym (eqb-true (key x) (key new) e))
-      go false e ih = ap (λ b. leb low (key x) && b) ih
+  rises-change k f same low [] = refl
+  rises-change k f same low (x ∷ xs) = let h = rises-change k f same (suc (key x)) xs in let s = same x in grind (arith, nat_tests)
 
   pub length-change : (k : ℕ) (f : A → A) (xs : List A) → length (change key k f xs) ≡ length xs
   unfolding change
   length-change k f [] = refl
-  length-change k f (x ∷ xs) = go (eqb (key x) k) (length-change k f xs)
-    where
-      go : (b : Bool) → length (change key k f xs) ≡ length xs → length (cond b (f x ∷ xs) (x ∷ change key k f xs)) ≡ suc (length xs)
-      go true ih = refl
-      go false ih = ap suc ih
+  length-change k f (x ∷ xs) = let h = length-change k f xs in grind (arith, nat_tests)
 
   -- the one that is found, changed but for its number, in its own place
   lookup-changed : (k : ℕ) (f : A → A) (x : A) (xs : List A) → lookup key k xs ≡ Some x → (key x ≡ k) × (change key k (λ _. f x) xs ≡ change key k f xs)
   unfolding lookup change
-  lookup-changed k f x [] e = absurd (let z : ◌≡◌ {A = ℕ} 0 1 = cc in let b : ⊥ = omega arith in b)
-  lookup-changed k f x (y ∷ ys) e = go (eqb (key y) k) refl (lookup-changed k f x ys) e
-    where
-      go : (b : Bool) → eqb (key y) k ≡ b → (lookup key k ys ≡ Some x → (key x ≡ k) × (change key k (λ _. f x) ys ≡ change key k f ys)) → cond b (Some y) (lookup key k ys) ≡ Some x
-          → (key x ≡ k) × (cond b (f x ∷ ys) (y ∷ change key k (λ _. f x) ys) ≡ cond b (f y ∷ ys) (y ∷ change key k f ys))
-      go true t ih e = let same : y ≡ x = cc in (sym (ap key same) ∙ eqb-true (key y) k t, ap (λ z. f z ∷ ys) (sym same))
-      go false t ih e = let p = ih e in (p.0, ap (λ zs. y ∷ zs) p.1)
+  lookup-changed k f x [] e = absurd cc
+  lookup-changed k f x (y ∷ ys) e = let h = lookup-changed k f x ys in (grind (arith, nat_tests), grind (arith, nat_tests))
 
   pub change-lookup : (k : ℕ) (f : A → A) (x : A) (xs : List A) → lookup key k xs ≡ Some x → key (f x) ≡ key x → change key (key (f x)) (λ _. f x) xs ≡ change key k f xs
   change-lookup k f x xs e same = let p = lookup-changed k f x xs e in ap (λ n. change key n (λ _. f x) xs) (same ∙ p.0) ∙ p.1
@@ -94,11 +75,7 @@ module _ {A : Type 0} (key : A → ℕ) where
   pub change-absent : (k : ℕ) (f : A → A) (xs : List A) → lookup key k xs ≡ None → change key k f xs ≡ xs
   unfolding lookup change
   change-absent k f [] e = refl
-  change-absent k f (x ∷ xs) e = go (eqb (key x) k) (change-absent k f xs) e
-    where
-      go : (b : Bool) → (lookup key k xs ≡ None → change key k f xs ≡ xs) → cond b (Some x) (lookup key k xs) ≡ None → cond b (f x ∷ xs) (x ∷ change key k f xs) ≡ x ∷ xs
-      go true ih e = absurd (let z : ◌≡◌ {A = ℕ} 0 1 = cc in let b : ⊥ = omega arith in b)
-      go false ih e = ap (λ ys. x ∷ ys) (ih e)
+  change-absent k f (x ∷ xs) e = let h = change-absent k f xs in grind (arith, nat_tests)
 
   -- the library's word for it
   pub any-is-has : (k : ℕ) (xs : List A) → list_any (λ x. eqb (key x) k) xs ≡ has key k xs

@@ -12,7 +12,7 @@ use Rattle.packed.proofs.Order.{change-absent}
 
 module _ {A : Type 0} (key : A → ℕ) where
   -- the numbers are at least the low one, and each is below those after it
-  rises-from : (low : ℕ) (xs : List A) → rises key low xs ≡ true → (i : ℕ) (d : A) → i < length xs → low ≤ key (get_or xs i d)
+  pub rises-from : (low : ℕ) (xs : List A) → rises key low xs ≡ true → (i : ℕ) (d : A) → i < length xs → low ≤ key (get_or xs i d)
   unfolding rises
   rises-from low [] r i d l = absurd (let b : ⊥ = omega arith in b)
   rises-from low (x ∷ xs) r zero d l = grind (arith, nat_tests)

@@ -4,7 +4,9 @@
 
 mod show;
 
-use cases::run::{ask, is_same};
+ghost use Rattle.std.specs.Prelude.{◌≡◌, ◌+◌, ◌<◌, false};
+
+use cases::run::is_met_on_both;
 use cases::sequence::{Shown, Step, scsi_sequence, sequence};
 use rules::numbering::{Numbering, Nvme, Scsi};
 use show::Words;
@@ -71,12 +73,7 @@ fn show_step<F: Calls, C: Calls>(
     step: Step,
     tally: &mut Tally,
 ) -> anyhow::Result<()> {
-    let file = ask(on_file, step.ask);
-    let chip = ask(on_chip, step.ask);
-    let found = tally.found(
-        is_same(file, step.reply) && is_same(chip, step.reply),
-        step.shown,
-    );
+    let found = tally.found(is_met_on_both(on_file, on_chip, step), step.shown);
     let ask = Words(step.ask);
     // The sequence names a refusal by its number alone.
     let reply = ShownReply {
@@ -91,7 +88,10 @@ fn show_step<F: Calls, C: Calls>(
 
 impl Tally {
     /// Counts a step, and says what was found.
-    fn found(&mut self, is_same: bool, shown: Shown) -> &'static str {
+    fn found(&mut self, is_same: bool, shown: Shown) -> &'static str
+        ensures same { is_same ≡ false → (self.new.same ≡ self.old.same) × (self.new.proved ≡ self.old.proved) }
+        ensures differ { is_same ≡ false → self.old.differ < 4294967295 → self.new.differ ≡ self.old.differ + 1 }
+    {
         if !is_same {
             self.differ = self.differ.saturating_add(1);
             return "DIFFERS";

@@ -80,6 +80,14 @@ fn caller_of(call: Call) -> Option<u32> {
     }
 }
 
+/// What `assign` ends with.
+fn last_word(standing: Standing) -> &'static str {
+    match standing {
+        Standing::Shared => "",
+        Standing::SingleUser => " single",
+    }
+}
+
 fn write_call<W: fmt::Write>(call: Call, f: &mut fmt::Formatter<W>) -> fmt::Result {
     if let Some(caller) = caller_of(call) {
         write!(f, "{} ", Caller(caller))?;
@@ -91,13 +99,7 @@ fn write_call<W: fmt::Write>(call: Call, f: &mut fmt::Formatter<W>) -> fmt::Resu
             length,
             standing,
             ..
-        } => {
-            let last = match standing {
-                Standing::Shared => "",
-                Standing::SingleUser => " single",
-            };
-            write!(f, "assign {unit} {start} {length}{last}")
-        }
+        } => { write!(f, "assign {unit} {start} {length}{}", last_word(standing)) }
         Call::Deassign { row, keep, .. } => {
             let last = if keep { " keep" } else { "" };
             write!(f, "deassign {row}{last}")

@@ -1,7 +1,7 @@
 -- A block of a unit: its row and its key.
-use Rattle.std.proofs.Common.{◌≡◌, ℕ, ◌<◌, ◌≤◌, Bool, true, false, cond, not, eqb, ◌≢◌, ◌⊎◌, List, [], ◌∷◌, map, is_some, None, filter, sym, refl, ap, ◌∙◌, subst, inl, inr, arith}
+use Rattle.std.proofs.Common.{◌≡◌, ℕ, ◌<◌, true, false, not, eqb, ◌≢◌, ◌⊎◌, List, [], ◌∷◌, map, is_some, None, filter, sym, refl, ap, ◌∙◌, subst, inl, inr, arith}
 use Rattle.std.proofs.lemmas.Bool.Decides.{nat_tests}
-use Rattle.std.proofs.lemmas.Bool.{cases_eq, both_ways, and_parts, eqb-true, eq-eqb, true≢false, cond-true}
+use Rattle.std.proofs.lemmas.Bool.{cases_eq, both_ways, and_parts, eqb-true, true≢false, cond_both, not-true, not-false}
 use Rattle.packed.specs.Rising.{has}
 use Rattle.rules.specs.declared.row.Kind.{Kind}
 use Rattle.rules.specs.declared.row.Kind.TheVariants.{Free, Global, UnitRow, RangeRow}
@@ -11,14 +11,13 @@ use Rattle.rules.specs.declared.unit.Holder.{Holder}
 use Rattle.rules.specs.declared.unit.Holder.TheVariants.{TheUnit, TheRow}
 use Rattle.rules.specs.declared.unit.LogicalUnit.{LogicalUnit}
 use Rattle.rules.specs.Drive.{Drive, kind_of}
-use Rattle.rules.specs.FreshKeys.{key_of, HasKey, fresh_key, fresh_keys, units_under_global}
+use Rattle.rules.specs.FreshKeys.{key_of, HasKey, units_under_global}
 use Rattle.rules.specs.Laws.{block_key}
 use Rattle.rules.specs.Rows.{row, is_range_row, key_or, covers, unit_row_of, range_over, lowest_row, is_there, controlling_row, has_unit_row}
 use Rattle.rules.specs.Sound.{row_fits, SoundRows, Sound}
 use Rattle.rules.specs.Units.{no_unit, exists, unit}
-use Rattle.rules.proofs.Holders.{key-held}
+use Rattle.rules.proofs.Places.{key-held}
 use Rattle.rules.proofs.Lookups.{lookup_key}
-use Rattle.rules.proofs.Renewals.{keyed-exists, keyed-serial}
 use Rattle.rules.proofs.RowsKept.{unit-row-there, fits-exists, fits_under}
 use Rattle.rules.proofs.Searches.{hit, control-by}
 
@@ -27,7 +26,7 @@ pub key-is : (d : Drive) (n block : ℕ) → exists n d.units ≡ true → block
 key-is d n block ex = ap (λ k. key_or (kind_of d (controlling_row d.rows k block)) (unit n d.units).serial) (lookup_key (λ (u : LogicalUnit). u.number) n d.units no_unit ex)
 
 -- what a row that covers a block, or a unit row, is
-over-parts : (n block : ℕ) (kind : Kind) → range_over n block kind ≡ true → (start len serial : ℕ) × (kind ≡ RangeRow n start len serial)
+pub over-parts : (n block : ℕ) (kind : Kind) → range_over n block kind ≡ true → (start len serial : ℕ) × (kind ≡ RangeRow n start len serial)
 over-parts n block Free h = absurd (true≢false (sym h))
 over-parts n block Global h = absurd (true≢false (sym h))
 over-parts n block (UnitRow u) h = absurd (true≢false (sym h))
@@ -77,69 +76,26 @@ module _ (d : Drive) (h : Sound d) where
   holder-given : (holder : Holder) → HasKey d holder → key_of d holder < d.next
   holder-given holder v = h.keys.given (key_of d holder) (key-held d h holder v)
 
-  unit-given : (n : ℕ) → exists n d.units ≡ true → (unit n d.units).serial < d.next
-  unit-given n ex = holder-given (TheUnit n) ex
-
   row-given : (r n start len serial : ℕ) → kind_of d r ≡ RangeRow n start len serial → serial < d.next
   row-given r n start len serial e = subst (λ k. key_or k 0 < d.next) e (holder-given (TheRow r) (ap is_range_row e))
 
   pub key-given : (n block : ℕ) → exists n d.units ≡ true → block_key d n block < d.next
   key-given n block ex = subst (λ k. k < d.next) (sym (key-is d n block ex)) (control-is d.units d.rows h.rows n block (λ i. key_or (kind_of d i) (unit n d.units).serial < d.next)
       (λ i s l k e _. subst (λ q. key_or q (unit n d.units).serial < d.next) (sym e) (row-given i n s l k e))
-      (λ i _ e. subst (λ q. key_or q (unit n d.units).serial < d.next) (sym e) (unit-given n ex))
-      (λ _ _. subst (λ q. key_or q (unit n d.units).serial < d.next) (sym h.rows.global) (unit-given n ex)))
+      (λ i _ e. subst (λ q. key_or q (unit n d.units).serial < d.next) (sym e) (holder-given (TheUnit n) ex))
+      (λ _ _. subst (λ q. key_or q (unit n d.units).serial < d.next) (sym h.rows.global) (holder-given (TheUnit n) ex)))
 
--- ---- a unit's key after renewals
+-- ---- the units under row 0
 abbrev pub Among : {A : Type 0} → A → List A → Type 0
 Among x [] = ⊥
 Among x (y ∷ ys) = (y ≡ x) ⊎ Among x ys
 
-fresh-exists : (d : Drive) (by : Holder) (n : ℕ) → exists n d.units ≡ true → exists n (fresh_key d by).units ≡ true
-fresh-exists d (TheUnit k) n ex = keyed-exists k d.next d.units n ∙ ex
-fresh-exists d (TheRow r) n ex = ex
-
--- it stays at least a serial that it has, or that is given from now on
-fresh-least : (d : Drive) (by : Holder) (n least : ℕ) → exists n d.units ≡ true → least ≤ d.next → least ≤ (unit n d.units).serial
-    → (least ≤ (fresh_key d by).next) × (least ≤ (unit n (fresh_key d by).units).serial)
-fresh-least d (TheUnit k) n least ex a b = (omega arith, subst (λ s. least ≤ s) (sym (keyed-serial k d.next d.units n ex)) (go (eqb n k)))
-  where
-    go : (c : Bool) → least ≤ cond c d.next (unit n d.units).serial
-    go true = a
-    go false = b
-fresh-least d (TheRow r) n least ex a b = (omega arith, b)
-
-renewed-least : (d : Drive) (holders : List Holder) (n least : ℕ) → exists n d.units ≡ true → least ≤ d.next → least ≤ (unit n d.units).serial → least ≤ (unit n (fresh_keys d holders).units).serial
-unfolding fresh_keys
-renewed-least d [] n least ex a b = b
-renewed-least d (holder ∷ holders) n least ex a b =
-    let p = fresh-least d holder n least ex a b in
-    renewed-least (fresh_key d holder) holders n least (fresh-exists d holder n ex) p.0 p.1
-
-pub renewed-key : (d : Drive) (holders : List Holder) (n least : ℕ) → exists n d.units ≡ true → least ≤ d.next → Among (TheUnit n) holders → least ≤ (unit n (fresh_keys d holders).units).serial
-unfolding fresh_keys
-renewed-key d [] n least ex a m = absurd m
-renewed-key d (holder ∷ holders) n least ex a m = elim m [
-  | inl e ↦ subst (λ x. least ≤ (unit n (fresh_keys (fresh_key d x) holders).units).serial) (sym e)
-      (renewed-least (fresh_key d (TheUnit n)) holders n least (fresh-exists d (TheUnit n) n ex) (omega arith)
-      (subst (λ s. least ≤ s) (sym (keyed-serial n d.next d.units n ex ∙ cond-true (eqb n n) _ _ (eq-eqb n n refl))) a))
-  | inr r ↦ renewed-key (fresh_key d holder) holders n least (fresh-exists d holder n ex) (grown d holder least a) r
-]
-  where
-    grown : (d : Drive) (by : Holder) (least : ℕ) → least ≤ d.next → least ≤ (fresh_key d by).next
-    grown d (TheUnit k) least a = omega arith
-    grown d (TheRow r) least a = omega arith
-
 -- what holds of the units under row 0 with and without the first unit
 pub under-by : (rows : List Row) (u : LogicalUnit) (us : List LogicalUnit) (P : List Holder → Type 0) → (has_unit_row u.number rows ≡ false → P (TheUnit u.number ∷ units_under_global rows us)) → (has_unit_row u.number rows ≡ true → P (units_under_global rows us))
     → P (units_under_global rows (u ∷ us))
-under-by rows u us P with without = go (has_unit_row u.number rows) refl
-  where
-    others : List LogicalUnit
-    others = filter (λ v. not (has_unit_row v.number rows)) us
-
-    go : (b : Bool) → has_unit_row u.number rows ≡ b → P (map (λ (v : LogicalUnit). TheUnit v.number) (cond (not b) (u ∷ others) others))
-    go true e = without e
-    go false e = with e
+under-by rows u us P with without =
+    let others = filter (λ (v : LogicalUnit). not (has_unit_row v.number rows)) us in
+    cond_both (not (has_unit_row u.number rows)) (u ∷ others) others (λ vs. P (map (λ (v : LogicalUnit). TheUnit v.number) vs)) (λ e. with (not-true _ e)) (λ e. without (not-false _ e))
 
 pub under-global : (rows : List Row) (us : List LogicalUnit) (n : ℕ) → exists n us ≡ true → has_unit_row n rows ≡ false → Among (TheUnit n) (units_under_global rows us)
 unfolding has

@@ -1,5 +1,5 @@
 -- Fresh keys are given in order, each to another holder.
-use Rattle.std.proofs.Common.{◌≡◌, ℕ, zero, suc, ◌+◌, ◌<◌, true, false, eqb, leb, ◌≢◌, ◌⊎◌, List, [], ◌∷◌, map, length, get_or, sym, refl, ap, ◌∙◌, subst, inl, inr, arith}
+use Rattle.std.proofs.Common.{◌≡◌, ℕ, zero, suc, ◌+◌, ◌<◌, ◌≤◌, true, false, eqb, leb, ◌≢◌, ◌⊎◌, List, [], ◌∷◌, map, length, get_or, sym, refl, ap, ◌∙◌, subst, inl, inr, arith}
 use Rattle.std.proofs.ByRecursion.{All-weaker, All-map}
 use Rattle.std.proofs.lemmas.Bool.Decides.{nat_tests}
 use Rattle.std.proofs.lemmas.Bool.{cases_eq, both_ways, true≢false, and_parts, leb-true, eq-eqb, ne_eqb, cond-true, cond-false}
@@ -22,7 +22,7 @@ use Rattle.rules.specs.Units.{exists}
 use Rattle.rules.proofs.Blocks.{Among, under-by, under-global}
 use Rattle.rules.proofs.Lookups.{has-from}
 use Rattle.rules.proofs.Places.{range-parts, range-within}
-use Rattle.rules.proofs.Renewals.{range-row-is, keyed-serial, rekeyed_row, valid-kept, valid-of-row, valid-of-unit}
+use Rattle.rules.proofs.Renewals.{range-row-is, fresh-next, keyed-serial, rekeyed_row, valid-kept, valid-of-row, valid-of-unit}
 use Rattle.rules.proofs.Numbered.{all-by}
 use Rattle.rules.proofs.Searches.{written, unwritten}
 
@@ -58,10 +58,6 @@ renewed-other : (d : Drive) (holders : List Holder) (other : Holder) → HasKey 
 unfolding fresh_keys
 renewed-other d [] other v a = refl
 renewed-other d (holder ∷ holders) other v a = renewed-other (fresh_key d holder) holders other (valid-kept d holder other v) a.1 ∙ other_key d holder other v a.0
-
-fresh-next : (d : Drive) (holder : Holder) → (fresh_key d holder).next ≡ d.next + 1
-fresh-next d (TheUnit n) = refl
-fresh-next d (TheRow r) = refl
 
 renewed-each : (d : Drive) (holders : List Holder) → AllByRecursion (HasKey d) holders → NoRepeat holders → (i : ℕ) → i < length holders → key_of (fresh_keys d holders) (get_or holders i (TheUnit 0)) ≡ d.next + i
 unfolding fresh_keys
@@ -138,6 +134,10 @@ place-among x (y ∷ ys) m = elim m [
   | inl e ↦ (0, omega arith, e)
   | inr n ↦ let p = place-among x ys n in (suc p.0, omega (arith, p.1), p.2)
 ]
+
+-- one of those that get fresh keys has one
+pub renewed-key : (d : Drive) (holders : List Holder) → KeyedInOrder d holders → (x : Holder) → Among x holders → d.next ≤ key_of (fresh_keys d holders) x
+renewed-key d holders k x m = let p = place-among x holders m in omega (arith, ap (key_of (fresh_keys d holders)) (sym p.2) ∙ k.each p.0 p.1)
 
 places : (x y : Holder) (xs : List Holder) → Before x y xs → (i j : ℕ) × (i < j) × (j < length xs) × (get_or xs i (TheUnit 0) ≡ x) × (get_or xs j (TheUnit 0) ≡ y)
 places x y [] b = absurd b

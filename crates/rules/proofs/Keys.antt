@@ -1,20 +1,21 @@
 -- The serials of a drive beside its vault, and what a request keeps of them.
-use Rattle.std.proofs.Common.{◌≡◌, ℕ, zero, suc, ◌+◌, ◌<◌, Bool, true, false, not, ◌&&◌, ◌||◌, eqb, ltb, leb, List, [], ◌∷◌, ◌++◌, map, length, get_or, set, Some, None, Option, sym, refl, ap, ◌∙◌, subst, inl, inr, arith}
+use Rattle.std.proofs.Common.{◌≡◌, ℕ, zero, suc, ◌+◌, ◌<◌, true, false, eqb, List, [], ◌∷◌, ◌++◌, map, length, get_or, set, None, Option, sym, refl, ap, ◌∙◌, subst, inl, inr, arith}
 use Rattle.std.proofs.lemmas.Bool.Decides.{nat_tests}
 use Rattle.std.proofs.lemmas.List.{length-set, get_or-set_same, set-set, set-get_or}
-use Rattle.std.proofs.lemmas.Bool.{cases_Bool, both_ways, and_parts, ne_eqb, true≢false}
+use Rattle.std.proofs.lemmas.Bool.{cases_Bool, both_ways, ne_eqb, true≢false}
 use Rattle.packed.specs.Rising.{rises, has, insert, remove, lookup}
-use Rattle.packed.proofs.Order.{has-insert, has-remove, remove-insert}
+use Rattle.packed.proofs.Order.{has-insert, has-remove, remove-insert, rises-remove}
 use Rattle.vault.specs.Meaning.{Meaning, sound, with_held, put_refusal, put_after, swap_refusal, swap_after, drop_refusal, drop_after}
 use Rattle.vault.specs.declared.refusal.VaultRefusal.{VaultRefusal}
 use Rattle.vault.specs.Checks.{unless}
 use Rattle.vault.specs.Serials.{set_of_serials, holds, adds, drops, collect, distinct}
-use Rattle.vault.proofs.Checks.{changed}
+use Rattle.vault.proofs.Checks.{changed, by_option}
 use Rattle.vault.proofs.Requests.{put-accepted, swap-accepted, drop-accepted, rises as rises-held, put-sound, swap-sound, drop-sound}
 use Rattle.vault.proofs.Words.{adds-comm, holds-collect, collect-set, collect-swap}
 use Rattle.rules.specs.declared.unit.LogicalUnit.{LogicalUnit}
 use Rattle.rules.specs.Sound.{serial_of, SoundKeys}
 use Rattle.rules.specs.Units.{exists, unit, with_unit, without_unit}
+use Rattle.rules.proofs.Lookups.{has-remove-same}
 
 -- ---- words, and the set that they make
 pub holds_at : (xs : List ℕ) (i : ℕ) → i < length xs → holds (get_or xs i 0) xs ≡ true
@@ -23,44 +24,25 @@ holds_at [] i l = absurd (let b : ⊥ = omega arith in b)
 holds_at (x ∷ xs) zero l = grind (arith, nat_tests)
 holds_at (x ∷ xs) (suc i) l = let h = holds_at xs i (omega arith) in grind (arith, nat_tests)
 
-holds-below : (s low : ℕ) (xs : List ℕ) → s < low → rises (λ x. x) low xs ≡ true → holds s xs ≡ false
-unfolding has rises
-holds-below s low [] l r = refl
-holds-below s low (x ∷ xs) l r = let h = holds-below s (suc x) xs in grind (arith, nat_tests)
-
 rises-less : (low x : ℕ) (ys : List ℕ) → rises (λ y. y) low (adds x ys) ≡ true → (rises (λ y. y) low ys ≡ true) × (holds x ys ≡ false)
-unfolding rises insert has
-rises-less low x [] r = (refl, refl)
-rises-less low x (y ∷ ys) r = go (ltb y x) refl (rises-less (suc y) x ys)
-  where
-    go : (b : Bool) → ltb y x ≡ b → (rises (λ z. z) (suc y) (adds x ys) ≡ true → (rises (λ z. z) (suc y) ys ≡ true) × (holds x ys ≡ false)) → (rises (λ z. z) low (y ∷ ys) ≡ true) × (holds x (y ∷ ys) ≡ false)
-    go true e ih =
-        let s : (leb low y && rises (λ z. z) (suc y) (adds x ys)) ≡ true = rw e at r in
-        let p = and_parts (leb low y) (rises (λ z. z) (suc y) (adds x ys)) s in
-        let q = ih p.1 in
-        let q0 = q.0 in
-        let q1 = q.1 in
-        (grind (arith, nat_tests), grind (arith, nat_tests))
-    go false e ih =
-        let s : (leb low x && (leb (suc x) y && rises (λ z. z) (suc y) ys)) ≡ true = rw e at r in
-        let k = holds-below x (suc y) ys in
-        (grind (arith, nat_tests), grind (arith, nat_tests))
+rises-less low x ys r = (
+  subst (λ zs. rises (λ y. y) low zs ≡ true) (remove-insert (λ y. y) x ys) (rises-remove (λ y. y) low x (adds x ys) r),
+  subst (λ zs. holds x zs ≡ false) (remove-insert (λ y. y) x ys) (has-remove-same (λ y. y) x low (adds x ys) r),
+)
 
 -- words whose set rises are all different
 collect-apart : (xs : List ℕ) → set_of_serials (collect xs) ≡ true → distinct xs ≡ true
 unfolding collect distinct
 collect-apart [] r = refl
-collect-apart (x ∷ xs) r = go (eqb x 0) refl (collect-apart xs)
-  where
-    go : (b : Bool) → eqb x 0 ≡ b → (set_of_serials (collect xs) ≡ true → distinct xs ≡ true) → ((eqb x 0 || not (holds x xs)) && distinct xs) ≡ true
-    go true e ih = let s : set_of_serials (collect xs) ≡ true = rw e at r in let q = ih s in rw e q
-    go false e ih =
-        let s : set_of_serials (adds x (collect xs)) ≡ true = rw e at r in
-        let p = rises-less 1 x (collect xs) s in
-        let q = ih p.0 in
-        let c = holds-collect x xs in
-        let p1 = p.1 in
-        grind (arith, nat_tests)
+collect-apart (x ∷ xs) r = elim (cases_Bool (eqb x 0)) [
+  | inl e ↦ let s : set_of_serials (collect xs) ≡ true = rw e at r in let ih = collect-apart xs s in grind (arith, nat_tests)
+  | inr e ↦
+      let p = rises-less 1 x (collect xs) (rw e at r) in
+      let ih = collect-apart xs p.0 in
+      let c = holds-collect x xs in
+      let q = p.1 in
+      grind (arith, nat_tests)
+]
 
 -- one unit more, or fewer
 pub collect-unit : (u : LogicalUnit) (us : List LogicalUnit) (ks : List ℕ) → (u.serial ≡ 0 → ⊥) → collect (map serial_of (with_unit u us) ++ ks) ≡ adds u.serial (collect (map serial_of us ++ ks))
@@ -71,15 +53,10 @@ collect-unit u (v ∷ us) ks z = let ih = collect-unit u us ks z in let k = adds
 pub collect-without : (n : ℕ) (us : List LogicalUnit) (ks : List ℕ) → exists n us ≡ true → ((unit n us).serial ≡ 0 → ⊥) → collect (map serial_of us ++ ks) ≡ adds (unit n us).serial (collect (map serial_of (without_unit n us) ++ ks))
 unfolding collect remove lookup has
 collect-without n [] ks h z = absurd (true≢false (sym h))
-collect-without n (v ∷ us) ks h z = go (eqb v.number n) refl (λ k y. collect-without n us ks k y)
-  where
-    go : (b : Bool) → eqb v.number n ≡ b → (exists n us ≡ true → ((unit n us).serial ≡ 0 → ⊥) → collect (map serial_of us ++ ks) ≡ adds (unit n us).serial (collect (map serial_of (without_unit n us) ++ ks))) → collect (map serial_of (v ∷ us) ++ ks) ≡ adds (unit n (v ∷ us)).serial (collect (map serial_of (without_unit n (v ∷ us)) ++ ks))
-    go true e f = let y : v.serial ≡ 0 → ⊥ = (λ q. z (rw e q)) in rw e (grind (arith, nat_tests))
-    go false e f =
-        let kn : exists n us ≡ true = grind (arith, nat_tests) in
-        let ih = f kn (λ q. z (rw e q)) in
-        let k = adds-comm v.serial (unit n us).serial (collect (map serial_of (without_unit n us) ++ ks)) in
-        rw e (grind (arith, nat_tests))
+collect-without n (v ∷ us) ks h z =
+    let ih = collect-without n us ks in
+    let k = adds-comm v.serial (unit n us).serial (collect (map serial_of (without_unit n us) ++ ks)) in
+    grind (arith, nat_tests)
 
 -- ---- the vault beside the words
 pub make-keys : (n : ℕ) (m : Meaning) (ws : List ℕ) → sound m ≡ true → m.held ≡ collect ws → ((s : ℕ) → holds s m.held ≡ true → s < n) → SoundKeys n m ws
@@ -87,8 +64,7 @@ make-keys n m ws ok e g = record { meaning = ok; held = e; apart = collect-apart
 
 -- no request changes the capacity
 capacity-as : (o : Option VaultRefusal) (m : Meaning) (held : List ℕ) → (unless o m (with_held m held)).capacity ≡ m.capacity
-capacity-as (Some refusal) m held = refl
-capacity-as None m held = refl
+capacity-as o m held = by_option o (λ o. (unless o m (with_held m held)).capacity ≡ m.capacity) (λ _. refl) (λ _ _. refl)
 
 pub put-capacity : (m : Meaning) (s : ℕ) → (put_after m s).capacity ≡ m.capacity
 put-capacity m s = capacity-as (put_refusal m s) m (adds s m.held)
@@ -98,6 +74,10 @@ swap-capacity m old new = capacity-as (swap_refusal m old new) m (adds new (drop
 
 pub drop-capacity : (m : Meaning) (s : ℕ) → (drop_after m s).capacity ≡ m.capacity
 drop-capacity m s = capacity-as (drop_refusal m s) m (drops s m.held)
+
+-- what a request that is not refused leaves
+asked : (o : Option VaultRefusal) (m : Meaning) (n : ℕ) (held ws : List ℕ) → o ≡ None → sound (with_held m held) ≡ true → held ≡ collect ws → ((s : ℕ) → holds s held ≡ true → s < n) → SoundKeys n (unless o m (with_held m held)) ws
+asked o m n held ws e ok h g = subst (λ (v : Meaning). SoundKeys n v ws) (changed o m (with_held m held) e) (make-keys n (with_held m held) ws ok h g)
 
 -- the same set in other words
 pub keys-as : (n : ℕ) (m : Meaning) (ws vs : List ℕ) → vs ≡ ws → SoundKeys n m ws → SoundKeys n m vs
@@ -128,51 +108,35 @@ module _ (n : ℕ) (m : Meaning) (words : List ℕ) (k : SoundKeys n m words) wh
 
     -- Put of the next serial, which is one word more
     module _ (ws : List ℕ) (more : collect ws ≡ adds n (collect words)) (room : length m.held < m.capacity) where
-      pub put-done : put_refusal m n ≡ None
-      put-done = put-accepted m n nonzero next-new room
-
-      put_is : put_after m n ≡ with_held m (adds n m.held)
-      put_is = sym (changed (put_refusal m n) m (with_held m (adds n m.held)) put-done)
-
-      pub put-keys : SoundKeys (n + 1) (put_after m n) ws
-      put-keys = subst (λ (v : Meaning). SoundKeys (n + 1) v ws) (sym put_is)
-          (make-keys (n + 1) (with_held m (adds n m.held)) ws (put-sound m k.meaning n put-done)
-          (ap (adds n) k.held ∙ sym more) (given-add n m.held k.given))
+      pub put-kept : (put_refusal m n ≡ None) × SoundKeys (n + 1) (put_after m n) ws
+      put-kept =
+          let done = put-accepted m n nonzero next-new room in
+          (done, asked (put_refusal m n) m (n + 1) (adds n m.held) ws done (put-sound m k.meaning n done) (ap (adds n) k.held ∙ sym more) (given-add n m.held k.given))
 
     -- Swap of a word for the next serial
     module _ (i s : ℕ) (l : i < length words) (g : get_or words i 0 ≡ s) (z : s ≡ 0 → ⊥) where
-      pub swap-done : swap_refusal m s n ≡ None
-      swap-done = swap-accepted m s n (word_held i s l g z) nonzero next-new
-
-      swap_is : swap_after m s n ≡ with_held m (adds n (drops s m.held))
-      swap_is = sym (changed (swap_refusal m s n) m (with_held m (adds n (drops s m.held))) swap-done)
-
-      pub swap-keys : SoundKeys (n + 1) (swap_after m s n) (set words i n)
-      swap-keys = subst (λ (v : Meaning). SoundKeys (n + 1) v (set words i n)) (sym swap_is)
-          (make-keys (n + 1) (with_held m (adds n (drops s m.held))) (set words i n)
-          (swap-sound m k.meaning s n swap-done)
-          (ap (λ v. adds n (drops s v)) k.held ∙ sym (collect-swap words i s l g z n nonzero))
-          (given-add n (drops s m.held) (λ t h. k.given t (holds-drop t s m.held h))))
+      pub swap-kept : (swap_refusal m s n ≡ None) × SoundKeys (n + 1) (swap_after m s n) (set words i n)
+      swap-kept =
+          let done = swap-accepted m s n (word_held i s l g z) nonzero next-new in (
+            done,
+            asked (swap_refusal m s n) m (n + 1) (adds n (drops s m.held)) (set words i n) done (swap-sound m k.meaning s n done)
+                (ap (λ v. adds n (drops s v)) k.held ∙ sym (collect-swap words i s l g z n nonzero))
+                (given-add n (drops s m.held) (λ t h. k.given t (holds-drop t s m.held h))),
+          )
 
   -- Drop of a serial, which is one word fewer
   module _ (ws : List ℕ) (s : ℕ) (fewer : collect words ≡ adds s (collect ws)) where
     was-held : m.held ≡ adds s (collect ws)
     was-held = k.held ∙ fewer
 
-    drop-held : holds s m.held ≡ true
-    drop-held = ap (holds s) was-held ∙ has-insert (λ x. x) s s (collect ws) ∙ grind (arith, nat_tests)
-
-    pub drop-done : drop_refusal m s ≡ None
-    drop-done = drop-accepted m s drop-held
-
-    drop-is : drop_after m s ≡ with_held m (drops s m.held)
-    drop-is = sym (changed (drop_refusal m s) m (with_held m (drops s m.held)) drop-done)
-
-    pub drop-keys : SoundKeys n (drop_after m s) ws
-    drop-keys = subst (λ (v : Meaning). SoundKeys n v ws) (sym drop-is)
-        (make-keys n (with_held m (drops s m.held)) ws (drop-sound m k.meaning s drop-done)
-        (ap (drops s) was-held ∙ remove-insert (λ x. x) s (collect ws))
-        (λ t h. k.given t (holds-drop t s m.held h)))
+    pub drop-kept : (drop_refusal m s ≡ None) × SoundKeys n (drop_after m s) ws
+    drop-kept =
+        let done = drop-accepted m s (ap (holds s) was-held ∙ has-insert (λ x. x) s s (collect ws) ∙ grind (arith, nat_tests)) in (
+          done,
+          asked (drop_refusal m s) m n (drops s m.held) ws done (drop-sound m k.meaning s done)
+              (ap (drops s) was-held ∙ remove-insert (λ x. x) s (collect ws))
+              (λ t h. k.given t (holds-drop t s m.held h)),
+        )
 
 -- ---- one word is written
 module _ (words : List ℕ) (i : ℕ) (l : i < length words) where

@@ -4,13 +4,8 @@ pub mod Numbered
 pub mod Lookups
 pub mod Keys
 pub mod RowsKept
-pub mod Words
 pub mod Places
 pub mod Renewals
-pub mod Holders
-pub mod Alike
-pub mod Selections
-pub mod Accepted
 pub mod Sounds
 pub mod Steps
 pub mod Blocks

@@ -1,48 +1,48 @@
 -- What one call can open.
-use Rattle.std.proofs.Common.{◌≡◌, ℕ, ◌<◌, ◌≤◌, Bool, true, false, cond, not, ◌&&◌, ◌||◌, eqb, ltb, ◌≢◌, ◌⊎◌, List, [], ◌∷◌, map, length, set, Some, None, Ok, Option, unwrap_or, sym, refl, ap, ◌∙◌, subst, inl, inr, arith}
-use Rattle.std.proofs.lemmas.List.{get_or-map, length-map, get_or_past}
+use Rattle.std.proofs.Common.{◌≡◌, ℕ, zero, suc, ◌≤◌, Bool, true, false, cond, not, ◌&&◌, ◌||◌, eqb, ltb, ◌≢◌, ◌⊎◌, List, [], ◌∷◌, map, length, set, Some, None, Ok, Option, unwrap_or, sym, refl, ap, ◌∙◌, subst, inl, inr, arith}
+use Rattle.std.proofs.lemmas.List.{length-map, length-set, get_or_past}
 use Rattle.std.proofs.lemmas.Bool.Decides.{nat_tests}
 use Rattle.std.specs.List.{list_any}
-use Rattle.std.proofs.lemmas.Bool.{cases_Bool, cases_eq, cases_lt, both_ways, and_parts, eqb-true, eq-eqb, ne_eqb, true≢false, not-false, or_parts, cond-true}
+use Rattle.std.proofs.lemmas.Bool.{cases_Bool, cases_eq, cases_lt, both_ways, and_parts, eqb-true, eq-eqb, ne_eqb, not-false, or_parts, cond-true}
 use Rattle.packed.specs.Rising.{lookup}
 use Rattle.packed.proofs.Order.{has-insert}
 use Rattle.vault.specs.Checks as checks
 use Rattle.vault.specs.Checks.{unless}
+use Rattle.vault.proofs.Checks.{by_option}
 use Rattle.rules.specs.declared.access.Access.{Access}
 use Rattle.rules.specs.declared.access.Access.TheVariants.{Read, Write}
 use Rattle.rules.specs.declared.call.Accepted.TheVariants.{Success}
 use Rattle.rules.specs.declared.call.Call.{Call}
 use Rattle.rules.specs.declared.call.Call.TheVariants.{Assign, Deassign, SetRange, SetLocks, GenKey, Erase, Reactivate, Create, Delete, Format, Reset}
-use Rattle.rules.specs.declared.cause.Cause.{Cause}
 use Rattle.rules.specs.declared.row.Flags.{Flags}
 use Rattle.rules.specs.declared.row.Kind.{Kind}
 use Rattle.rules.specs.declared.row.Kind.TheVariants.{Free, Global, UnitRow, RangeRow}
 use Rattle.rules.specs.declared.row.Row.{Row}
 use Rattle.rules.specs.declared.row.Sought.TheVariants.{FreeRow, UnitRowOf, RangeRowOf, RangeOver}
 use Rattle.rules.specs.declared.row.Standing.{Standing}
+use Rattle.rules.specs.declared.unit.Holder.{Holder}
 use Rattle.rules.specs.declared.unit.Holder.TheVariants.{TheUnit, TheRow}
 use Rattle.rules.specs.declared.unit.LogicalUnit.{LogicalUnit}
 use Rattle.rules.specs.Calls.{refusal, left, said, after, Answer, answer}
 use Rattle.rules.specs.Commands.{create_checks, create_refusal, new_unit, created, deleted, formatted, was_reset}
-use Rattle.rules.specs.Drive.{Drive, row_of, kind_of, unit_of, row_locked}
-use Rattle.rules.specs.FreshKeys.{fresh_key, fresh_keys, holders_of, unit_and_ranges}
+use Rattle.rules.specs.Drive.{Drive, with_rows, row_of, kind_of, unit_of, row_locked}
+use Rattle.rules.specs.FreshKeys.{key_of, fresh_key, holders_of, renewed_by, unit_and_ranges}
 use Rattle.rules.specs.Laws.{has_block, block_key, FreshlyKeyed, SetByOwner}
 use Rattle.rules.specs.Methods.{assign_refusal, row_to_take, unit_row_assigned, range_row_assigned, assigned, deassign_checks, freed, given_up, set_range_checks, range_set, set_locks_checks, set_locks_refusal, locks_set, key_generated, erased, reactivate_checks, reactivated}
 use Rattle.rules.specs.Questions.{block_locked}
-use Rattle.rules.specs.Rows.{blank, locked_for, locked, lock_enabled, relocked, free_row, row, is_free, is_a_unit_row, unit_or, key_or, with_serial, with_range, with_flags, with_kind, anew, unit_row_of, range_row_of, range_over, suits, lowest_row, is_there, row_under, controlling_row}
+use Rattle.rules.specs.Rows.{blank, is_range_row, locked_for, locked, lock_enabled, relocked, free_row, row, is_free, is_a_unit_row, unit_or, key_or, with_range, with_flags, with_kind, anew, unit_row_of, range_row_of, range_over, suits, lowest_row, is_there, row_under, controlling_row}
 use Rattle.rules.specs.Sessions.{in_session, owner}
 use Rattle.rules.specs.Sound.{is_global, Sound}
 use Rattle.rules.specs.Units.{no_unit, exists, unit, with_unit, without_unit}
-use Rattle.rules.proofs.Accepted.{opened, passed, passed-in}
-use Rattle.rules.proofs.Alike.{alike-fresh, Alike, alike-renewed, alike-control}
-use Rattle.rules.proofs.Blocks.{key-is, control-is, control-other, control-global, key-new, key-given, renewed-key, under-global}
+use Rattle.rules.proofs.Sounds.{opened, passed, passed-in, take-free}
+use Rattle.rules.proofs.Renewals.{alike-fresh, Alike, alike-renewed, alike-kind, alike-control}
+use Rattle.rules.proofs.Blocks.{key-is, control-is, control-other, control-global, key-new, key-given, over-parts, Among, under-global}
+use Rattle.rules.proofs.InOrder.{renewed-key, fresh-keys-in-order}
 use Rattle.rules.proofs.Lookups.{lookup-insert, lookup-remove, has-remove-other, has-remove-same}
 use Rattle.rules.proofs.Places.{range-parts}
-use Rattle.rules.proofs.Renewals.{rekeyed_row}
-use Rattle.rules.proofs.RowsKept.{within, in_table, not-row-0, none-at, no_other, any_none, unit-row-there}
-use Rattle.rules.proofs.Searches.{found-is, nowhere, written, unwritten, set-alike, lowest-as, control-as, first-same}
-use Rattle.rules.proofs.Selections.{map-alike}
-use Rattle.rules.proofs.Sounds.{take-free}
+use Rattle.rules.proofs.RowsKept.{none_passes, within, in_table, not-row-0, none-at, no_other, unit-row-there}
+use Rattle.rules.proofs.Searches.{found-is, nowhere, written, unwritten, set-alike, control-as}
+use Rattle.rules.proofs.Numbered.{map-alike}
 use Rattle.rules.proofs.Steps.{branch-passed, left-kept}
 
 -- ---- flags
@@ -50,13 +50,8 @@ unlocked : (access : Access) (f : Flags) → locked f ≡ false → locked_for a
 unlocked Read f e = (or_parts _ _ e).0
 unlocked Write f e = (or_parts _ _ e).1
 
-not-enabled : (access : Access) (f : Flags) → lock_enabled f ≡ false → locked_for access f ≡ false
-not-enabled Read f e = grind (arith, nat_tests)
-not-enabled Write f e = grind (arith, nat_tests)
-
-none-locked : (access : Access) → locked_for access free_row.flags ≡ false
-none-locked Read = refl
-none-locked Write = refl
+not-enabled : (f : Flags) → lock_enabled f ≡ false → locked f ≡ false
+not-enabled f e = grind (arith, nat_tests)
 
 relock-keeps : (access : Access) (f : Flags) → locked_for access f ≡ true → locked_for access (relocked f) ≡ true
 relock-keeps Read f e = grind (arith, nat_tests)
@@ -98,21 +93,18 @@ module _ (access : Access) (n block : ℕ) where
   alike-opens : (d e : Drive) → Alike d e → shut_to d ≡ true → shut_to e ≡ false → ⊥
   alike-opens d e a t f = both_ways (shut_to e) f (alike-shut d e a ∙ t)
 
-  -- ---- flags alone
-  module _ (d : Drive) (r : ℕ) (flags : Flags) where
-    abbrev new : Row
-    new = with_flags flags (row_of d r)
+  -- ---- one row is written, and looks for the block as before
+  module _ (d : Drive) (r : ℕ) (x : Row) (over : range_over n block x.kind ≡ range_over n block (kind_of d r)) (under : unit_row_of n x.kind ≡ unit_row_of n (kind_of d r)) where
+    same-control : controlling_row (set d.rows r x) n block ≡ controlling_row d.rows n block
+    same-control = control-as d.rows n block (set d.rows r x) (length-set d.rows r x) (set-alike d.rows r x (λ y. range_over n block y.kind) over) (set-alike d.rows r x (λ y. unit_row_of n y.kind) under)
 
-    locks-control : controlling_row (set d.rows r new) n block ≡ controlling_row d.rows n block
-    locks-control = control-as d.rows n block (set d.rows r new) (lowest-as d.rows r new (RangeOver n block) refl) (lowest-as d.rows r new (UnitRowOf n) refl)
-
-    -- another row
-    locks-other : controlling_row d.rows n block ≢ r → shut_to d ≡ true → shut_to (locks_set d r flags) ≡ false → ⊥
-    locks-other ne t f = nothing d (locks_set d r flags) refl (locked-as d.rows (set d.rows r new) locks-control (ap (λ (y : Row). y.flags) (unwritten d.rows r new (controlling_row d.rows n block) ne))) t f
+    -- another row is the block's
+    other-row : controlling_row d.rows n block ≢ r → shut_to d ≡ true → shut_to (with_rows (set d.rows r x) d) ≡ false → ⊥
+    other-row ne = nothing d (with_rows (set d.rows r x) d) refl (locked-as d.rows (set d.rows r x) same-control (ap (λ (y : Row). y.flags) (unwritten d.rows r x (controlling_row d.rows n block) ne)))
 
   set-locks-opens : (d : Drive) (caller r : ℕ) (flags : Flags) → in_session caller (set_locks_refusal d caller r) ≡ None → shut_to d ≡ true → shut_to (locks_set d r flags) ≡ false → SetByOwner d n block (SetLocks caller r flags) (Ok Success)
   set-locks-opens d caller r flags e t f = elim (cases_eq (controlling_row d.rows n block) r) [
-    | inr other ↦ absurd (locks-other d r flags other t f)
+    | inr other ↦ absurd (other-row d r (with_flags flags (row_of d r)) refl refl other t f)
     | inl same ↦
         let p = passed-in d (set_locks_checks d caller r) caller e in
         let o : caller ≡ owner r (row_of d r) = eqb-true caller (owner r (row_of d r)) (not-false _ p.1.1.0) in
@@ -126,34 +118,29 @@ module _ (access : Access) (n block : ℕ) where
         }
   ]
 
-  reset-opens : (d : Drive) → Sound d → shut_to d ≡ true → shut_to (was_reset d) ≡ false → ⊥
-  reset-opens d h t f =
-      let make : Row → Row = λ r. with_flags (relocked r.flags) r in
-      let ss = map make d.rows in
-      let c : controlling_row ss n block ≡ controlling_row d.rows n block = control-as d.rows n block ss
-      (first-same (λ y. suits (RangeOver n block) y) free_row ss d.rows (length-map d.rows make) (map-alike (suits (RangeOver n block)) make (λ r. refl) d.rows))
-      (first-same (λ y. suits (UnitRowOf n) y) free_row ss d.rows (length-map d.rows make) (map-alike (suits (UnitRowOf n)) make (λ r. refl) d.rows)) in
-      let b = there-after (was_reset d) f in
+  reset-opens : (d : Drive) → shut_to d ≡ true → shut_to (was_reset d) ≡ false → ⊥
+  reset-opens d t f =
+      let ss = map again d.rows in
+      let c = control-as d.rows n block ss (length-map d.rows again) (map-alike (λ y. range_over n block y.kind) again (λ r. refl) d.rows) (map-alike (λ y. unit_row_of n y.kind) again (λ r. refl) d.rows) in
       let q = or_parts (not (has_block (was_reset d) n block)) (block_locked ss access n block) f in
-      let was : block_locked d.rows access n block ≡ true = (elim (cases_Bool (block_locked d.rows access n block)) [ inl e ↦ e | inr e ↦ absurd (both_ways (shut_to d) (ap (λ x. not x || block_locked d.rows access n block) b ∙ e) t) ]) in
-      both_ways (block_locked ss access n block) q.1 (ap (λ i. locked_for access (row i ss).flags) c ∙ kept (controlling_row d.rows n block) was)
+      both_ways (block_locked ss access n block) q.1 (ap (λ i. locked_for access (row i ss).flags) c ∙ kept d.rows (controlling_row d.rows n block) (ap (λ b. b || block_locked d.rows access n block) (sym q.0) ∙ t))
     where
-      kept : (i : ℕ) → locked_for access (row i d.rows).flags ≡ true → locked_for access (row i (map (λ r. with_flags (relocked r.flags) r) d.rows)).flags ≡ true
-      kept i e = elim (cases_lt i (length d.rows)) [
-        | inl l ↦ ap (λ (y : Row). locked_for access y.flags) (get_or-map (λ r. with_flags (relocked r.flags) r) d.rows i free_row free_row l) ∙ relock-keeps access (row i d.rows).flags e
-        | inr g ↦ absurd (both_ways (locked_for access (row i d.rows).flags) (ap (λ (y : Row). locked_for access y.flags) (get_or_past d.rows i free_row g) ∙ none-locked access) e)
-      ]
+      again : Row → Row
+      again r = with_flags (relocked r.flags) r
+
+      kept : (rows : List Row) (i : ℕ) → locked_for access (row i rows).flags ≡ true → locked_for access (row i (map again rows)).flags ≡ true
+      kept [] i e = e
+      kept (r ∷ rs) zero e = relock-keeps access r.flags e
+      kept (r ∷ rs) (suc i) e = kept rs i e
 
   -- no lock is enabled, so no block was locked
-  reactivate-opens : (d : Drive) (selection policy : ℕ) → Sound d → list_any (λ r. lock_enabled r.flags) d.rows ≡ false → shut_to d ≡ true → shut_to (reactivated d selection policy) ≡ false → ⊥
-  reactivate-opens d selection policy h free t f =
-      let b : has_block d n block ≡ true = there-after (reactivated d selection policy) f in
-      both_ways (shut_to d) (ap (λ x. not x || block_locked d.rows access n block) b ∙ open_row (controlling_row d.rows n block)) t
+  reactivate-opens : (d : Drive) (selection policy : ℕ) → list_any (λ r. lock_enabled r.flags) d.rows ≡ false → shut_to d ≡ true → shut_to (reactivated d selection policy) ≡ false → ⊥
+  reactivate-opens d selection policy free t f = not-open d t (there-after (reactivated d selection policy) f) (controlling_row d.rows n block) refl (open_row (controlling_row d.rows n block))
     where
-      open_row : (i : ℕ) → locked_for access (row i d.rows).flags ≡ false
+      open_row : (i : ℕ) → locked (row i d.rows).flags ≡ false
       open_row i = elim (cases_lt i (length d.rows)) [
-        | inl l ↦ not-enabled access (row i d.rows).flags (any_none (λ r. lock_enabled r.flags) d.rows free i l)
-        | inr g ↦ ap (λ (y : Row). locked_for access y.flags) (get_or_past d.rows i free_row g) ∙ none-locked access
+        | inl l ↦ not-enabled (row i d.rows).flags (none_passes (λ r. lock_enabled r.flags) d.rows free i free_row l)
+        | inr g ↦ ap (λ (y : Row). locked y.flags) (get_or_past d.rows i free_row g)
       ]
 
   -- ---- units
@@ -190,29 +177,14 @@ module _ (access : Access) (n block : ℕ) where
 
   -- ---- one row is written
   module _ (d : Drive) (h : Sound d) (r : ℕ) (x : Row) where
-    abbrev ss : List Row
-    ss = set d.rows r x
-
     -- it has to do with the block neither before nor after
-    elsewhere : 0 < r → range_over n block (kind_of d r) ≡ false → range_over n block x.kind ≡ false → unit_row_of n (kind_of d r) ≡ false → unit_row_of n x.kind ≡ false
-        → block_locked ss access n block ≡ block_locked d.rows access n block
-    elsewhere p o o' u u' =
-        let c = control-other d.units d.rows h.rows n block r p o u in
-        locked-as d.rows ss (control-as d.rows n block ss (lowest-as d.rows r x (RangeOver n block) (o' ∙ sym o)) (lowest-as d.rows r x (UnitRowOf n) (u' ∙ sym u)))
-        (ap (λ (y : Row). y.flags) (unwritten d.rows r x (controlling_row d.rows n block) c))
+    elsewhere : is_global (kind_of d r) ≡ false → range_over n block (kind_of d r) ≡ false → range_over n block x.kind ≡ false → unit_row_of n (kind_of d r) ≡ false → unit_row_of n x.kind ≡ false
+        → shut_to d ≡ true → shut_to (with_rows (set d.rows r x) d) ≡ false → ⊥
+    elsewhere g o o' u u' = other-row d r x (o' ∙ sym o) (u' ∙ sym u) (control-other d.units d.rows h.rows n block r (not-row-0 d.units d.rows h.rows r g) o u)
 
     -- the row that covered the block controlled it
     covered : range_over n block (kind_of d r) ≡ true → controlling_row d.rows n block ≡ r
-    covered o = ap (λ i. unwrap_or i (row_under d.rows n)) (found-is (RangeOver n block) d.rows (h.rows.ranges n block) r (within d.units d.rows h.rows r (in_table d.units d.rows h.rows r (used (kind_of d r) o))) o)
-      where
-        used : (kind : Kind) → range_over n block kind ≡ true → is_free kind ≡ false
-        used Free o = absurd (true≢false (sym o))
-        used Global o = refl
-        used (UnitRow u) o = refl
-        used (RangeRow u s l k) o = refl
-
-  not-global : (d : Drive) (h : Sound d) (r : ℕ) → is_global (kind_of d r) ≡ false → 0 < r
-  not-global d h r e = not-row-0 d.units d.rows h.rows r e
+    covered o = ap (λ i. unwrap_or i (row_under d.rows n)) (found-is (RangeOver n block) d.rows (h.rows.ranges n block) r (within d.units d.rows h.rows r (in_table d.units d.rows h.rows r (ap is_free (over-parts n block (kind_of d r) o).3))) o)
 
   unit-row-opens : (d : Drive) (k : ℕ) (standing : Standing) → Sound d → is_there (UnitRowOf k) d.rows ≡ false → is_there (FreeRow standing) d.rows ≡ true → row_locked d 0 ≡ false
       → shut_to d ≡ true → shut_to (unit_row_assigned d k standing) ≡ false → ⊥
@@ -221,7 +193,7 @@ module _ (access : Access) (n block : ℕ) where
       let x : Row = anew (UnitRow k) (row_of d r) in
       let fr = (take-free d h standing free).1 in
       elim (cases_eq k n) [
-        | inr other ↦ nothing d (unit_row_assigned d k standing) refl (elsewhere d h r x (not-global d h r (ap is_global fr)) (ap (range_over n block) fr) refl (ap (unit_row_of n) fr) (ne_eqb k n other)) t f
+        | inr other ↦ elsewhere d h r x (ap is_global fr) (ap (range_over n block) fr) refl (ap (unit_row_of n) fr) (ne_eqb k n other) t f
         | inl same ↦ not-open d t (there-after (unit_row_assigned d k standing) f) 0 (control-global d.units d.rows h.rows n block (ap (λ j. is_there (UnitRowOf j) d.rows) (sym same) ∙ none)) top
       ]
 
@@ -234,7 +206,7 @@ module _ (access : Access) (n block : ℕ) where
       let fr = take-free d h standing free in
       let l = within d.units d.rows h.rows r fr.0 in
       elim (cases_Bool (range_over n block x.kind)) [
-        | inr off ↦ absurd (nothing d e refl (elsewhere d h r x (not-global d h r (ap is_global fr.1)) (ap (range_over n block) fr.1) off (ap (unit_row_of n) fr.1) refl) t f)
+        | inr off ↦ absurd (elsewhere d h r x (ap is_global fr.1) (ap (range_over n block) fr.1) off (ap (unit_row_of n) fr.1) refl t f)
         | inl on ↦
             let b = there-after e f in
             let ex = (and_parts (exists n d.units) _ b).0 in
@@ -253,7 +225,7 @@ module _ (access : Access) (n block : ℕ) where
       let x : Row = anew Free (row_of d r) in
       elim (cases_Bool (range_over n block (kind_of d r))) [
         | inl on ↦ not-open d t (there-after (given_up d r keep (RangeRow k s l q)) f) r (covered d h r x on) u
-        | inr off ↦ nothing d (given_up d r keep (RangeRow k s l q)) refl (elsewhere d h r x (not-global d h r (ap is_global e)) off refl (ap (unit_row_of n) e) refl) t f
+        | inr off ↦ elsewhere d h r x (ap is_global e) off refl (ap (unit_row_of n) e) refl t f
       ]
   given-up-opens d r keep (UnitRow k) h e none u t f = freed-opens (elim (cases_Bool keep) [
     | inl y ↦ subst (λ b. shut_to (cond b (freed d r) (fresh_key (freed d r) (TheUnit k))) ≡ false) y f
@@ -265,7 +237,7 @@ module _ (access : Access) (n block : ℕ) where
           let x : Row = anew Free (row_of d r) in
           let over : range_over n block (kind_of d r) ≡ false = ap (range_over n block) e in
           elim (cases_eq k n) [
-            | inr other ↦ nothing d (freed d r) refl (elsewhere d h r x (not-global d h r (ap is_global e)) over refl (ap (unit_row_of n) e ∙ ne_eqb k n other) refl) t g
+            | inr other ↦ elsewhere d h r x (ap is_global e) over refl (ap (unit_row_of n) e ∙ ne_eqb k n other) refl t g
             | inl same ↦ not-open d t (there-after (freed d r) g) r (control-is d.units d.rows h.rows n block (λ i. i ≡ r)
                 (λ i a b c q _. absurd (both_ways (range_row_of k (kind_of d i)) (none-at d.units d.rows h.rows (RangeRowOf k) refl none i) (ap (range_row_of k) q ∙ eq-eqb n k (sym same))))
                 (λ i _ q. h.rows.unit_rows n i r (ap (unit_row_of n) q ∙ eq-eqb n n refl) (ap (unit_row_of n) e ∙ eq-eqb k n same))
@@ -283,7 +255,7 @@ module _ (access : Access) (n block : ℕ) where
       elim (cases_Bool (range_over n block (kind_of d r))) [
         | inl on ↦ not-open d t b r (covered d h r x on) own
         | inr off ↦ elim (cases_Bool (range_over n block x.kind)) [
-          | inr still ↦ nothing d (range_set d r start len) refl (elsewhere d h r x (not-global d h r (ap is_global e)) off still (ap (unit_row_of n) e) (ap (unit_row_of n) xe)) t f
+          | inr still ↦ elsewhere d h r x (ap is_global e) off still (ap (unit_row_of n) e) (ap (unit_row_of n) xe) t f
           | inl new ↦
               let mine : suits (RangeOver n block) (row r (set d.rows r x)) ≡ true = ap (λ (y : Row). range_over n block y.kind) (written d.rows r x lt) ∙ new in
               let none : lowest_row (RangeOver n block) d.rows ≡ None = nowhere (RangeOver n block) d.rows (λ i _. elim (cases_eq i r) [
@@ -303,59 +275,37 @@ module _ (access : Access) (n block : ℕ) where
     alike : Alike d renewed
     alike = alike-renewed d (holders_of d r (kind_of d r))
 
-    -- what kind of row controls the block
-    control-kind : (Q : Kind → Type 0) → ((k : Kind) → range_over n block k ≡ true → Q k) → Q (UnitRow n) → (is_there (UnitRowOf n) d.rows ≡ false → Q Global) → controlling_row d.rows n block ≡ r → Q (kind_of d r)
-    control-kind Q f g z c = subst (λ i. Q (kind_of d i)) c (control-is d.units d.rows h.rows n block (λ i. Q (kind_of d i))
-        (λ i _ _ _ _ o. f (kind_of d i) o)
-        (λ i _ e. subst Q (sym e) g)
-        (λ _ none. subst Q (sym h.rows.global) (z none)))
+    -- what stands in row r with a key of its own, or the unit of the block, is one of those that get fresh keys
+    by-holder : (x : Holder) (kind : Kind) → kind_of d r ≡ kind → Among x (holders_of d r kind) → key_of renewed x ≡ cond (is_range_row kind) (key_of renewed (TheRow r)) (key_of renewed (TheUnit n))
+        → d.next ≤ key_or (kind_of renewed r) (key_of renewed (TheUnit n))
+    by-holder x kind e m same =
+        let own = own-or (kind_of renewed r) (key_of renewed (TheUnit n)) ∙ ap (λ b. cond b (key_of renewed (TheRow r)) (key_of renewed (TheUnit n))) (alike-kind d renewed alike is_range_row (λ _ _ _ _ _. refl) r ∙ ap is_range_row e) in
+        omega (arith, renewed-key d (renewed_by d r) ((fresh-keys-in-order d h).0 r) x (subst (λ k. Among x (holders_of d r k)) (sym e) m), own ∙ sym same)
+      where
+        own-or : (kind : Kind) (other : ℕ) → key_or kind other ≡ cond (is_range_row kind) (key_or kind 0) other
+        own-or Free other = refl
+        own-or Global other = refl
+        own-or (UnitRow u) other = refl
+        own-or (RangeRow u s l k) other = refl
 
     -- the row that is blanked has a fresh key, or its unit, or each unit under it
-    fresh-key : exists n d.units ≡ true → controlling_row d.rows n block ≡ r → (kind : Kind) → kind_of d r ≡ kind → d.next ≤ key_or (kind_of (fresh_keys d (holders_of d r kind)) r) (unit n (fresh_keys d (holders_of d r kind)).units).serial
-    unfolding fresh_keys
-    fresh-key ex c Free e = absurd (both_ways (is_free (kind_of d r)) (control-kind (λ k. is_free k ≡ false) covering refl (λ _. refl) c) (ap is_free e))
-      where
-        covering : (k : Kind) → range_over n block k ≡ true → is_free k ≡ false
-        covering Free o = absurd (true≢false (sym o))
-        covering Global o = refl
-        covering (UnitRow u) o = refl
-        covering (RangeRow u a l q) o = refl
-    fresh-key ex c Global e =
-        let none : is_there (UnitRowOf n) d.rows ≡ false = control-kind (λ k. k ≡ Global → is_there (UnitRowOf n) d.rows ≡ false) covering (λ q. absurd cc) (λ q _. q) c e in
-        let holders = holders_of d r Global in
-        let kind : kind_of (fresh_keys d holders) r ≡ Global = bare-global (kind_of (fresh_keys d holders) r) ((alike-renewed d holders).kinds r ∙ ap (with_serial 0) e) in
-        subst (λ k. d.next ≤ key_or k (unit n (fresh_keys d holders).units).serial) (sym kind) (renewed-key d holders n d.next ex (omega arith) (under-global d.rows d.units n ex none))
-      where
-        covering : (k : Kind) → range_over n block k ≡ true → k ≡ Global → is_there (UnitRowOf n) d.rows ≡ false
-        covering k o q = absurd (both_ways (range_over n block k) (ap (range_over n block) q) o)
-
-        bare-global : (k : Kind) → with_serial 0 k ≡ Global → k ≡ Global
-        bare-global Free q = q
-        bare-global Global q = refl
-        bare-global (UnitRow u) q = q
-        bare-global (RangeRow u a l s) q = absurd cc
-    fresh-key ex c (UnitRow k) e =
-        let kn : k ≡ n = control-kind (λ q. q ≡ UnitRow k → k ≡ n) covering (λ q. cc) (λ _ q. absurd cc) c e in
-        subst (λ q. d.next ≤ key_or q (unit n (fresh_keys d (TheUnit k ∷ [])).units).serial) (sym e) (renewed-key d (TheUnit k ∷ []) n d.next ex (omega arith) (inl (ap TheUnit kn)))
-      where
-        covering : (q : Kind) → range_over n block q ≡ true → q ≡ UnitRow k → k ≡ n
-        covering q o p = absurd (both_ways (range_over n block q) (ap (range_over n block) p) o)
-    fresh-key ex c (RangeRow k a l q) e =
-        let lt = within d.units d.rows h.rows r (in_table d.units d.rows h.rows r (ap is_free e)) in
-        let w : kind_of (fresh_keys d (TheRow r ∷ [])) r ≡ RangeRow k a l d.next = ap (λ (y : Row). y.kind) (written d.rows r (rekeyed_row d r) lt) ∙ ap (with_serial d.next) e in
-        subst (λ y. d.next ≤ key_or y (unit n d.units).serial) (sym w) (omega arith)
+    fresh-key : exists n d.units ≡ true → controlling_row d.rows n block ≡ r → d.next ≤ key_or (kind_of renewed r) (unit n renewed.units).serial
+    fresh-key ex = control-is d.units d.rows h.rows n block (λ i. i ≡ r → d.next ≤ key_or (kind_of renewed r) (unit n renewed.units).serial)
+        (λ i s l q e _ is. by-holder (TheRow r) (RangeRow n s l q) (ap (kind_of d) (sym is) ∙ e) (inl refl) refl)
+        (λ i _ e is. by-holder (TheUnit n) (UnitRow n) (ap (kind_of d) (sym is) ∙ e) (inl refl) refl)
+        (λ _ none is. by-holder (TheUnit n) Global (ap (kind_of d) (sym is) ∙ h.rows.global) (under-global d.rows d.units n ex none) refl)
 
     erase-opens : shut_to d ≡ true → shut_to (erased d r) ≡ false → FreshlyKeyed d (erased d r) n block
     erase-opens t f = elim (cases_eq (controlling_row d.rows n block) r) [
-      | inr other ↦ absurd (locks-other renewed r blank (λ q. other (sym (alike-control d renewed alike n block) ∙ q)) (alike-shut d renewed alike ∙ t) f)
+      | inr other ↦ absurd (other-row renewed r (with_flags blank (row_of renewed r)) refl refl (λ q. other (sym (alike-control d renewed alike n block) ∙ q)) (alike-shut d renewed alike ∙ t) f)
       | inl same ↦
           let e = erased d r in
           let b = there-after e f in
           let ex : exists n e.units ≡ true = (and_parts (exists n e.units) _ b).0 in
-          let c : controlling_row e.rows n block ≡ r = locks-control renewed r blank ∙ alike-control d renewed alike n block ∙ same in
+          let c : controlling_row e.rows n block ≡ r = same-control renewed r (with_flags blank (row_of renewed r)) refl refl ∙ alike-control d renewed alike n block ∙ same in
           let kind : kind_of e r ≡ kind_of renewed r = set-alike renewed.rows r (with_flags blank (row_of renewed r)) (λ (y : Row). y.kind) refl r in
           let key : block_key e n block ≡ key_or (kind_of renewed r) (unit n renewed.units).serial = key-is e n block ex ∙ ap (λ i. key_or (kind_of e i) (unit n e.units).serial) c ∙ ap (λ k. key_or k (unit n e.units).serial) kind in
-          let fresh = fresh-key (sym (alike.there n) ∙ ex) same (kind_of d r) refl in
+          let fresh = fresh-key (sym (alike.there n) ∙ ex) same in
           record { there = b; fresh = subst (λ k. d.next ≤ k) (sym key) fresh; given = key-given e s n block ex }
     ]
 
@@ -389,15 +339,14 @@ module _ (access : Access) (n block : ℕ) where
   left-opens d (Erase caller r) h s e t f = inl (erase-opens d r h s t f)
   left-opens d (Reactivate caller selection policy) h s e t f =
       let p = passed-in d (reactivate_checks d caller selection policy) caller e in
-      absurd (reactivate-opens d selection policy h p.1.1.0 t f)
+      absurd (reactivate-opens d selection policy p.1.1.0 t f)
   left-opens d (Create k blocks) h s e t f = inl (create-opens d k blocks h s e t f)
   left-opens d (Delete k) h s e t f = absurd (delete-opens d k h t f)
   left-opens d (Format k) h s e t f = absurd (alike-opens d (formatted d k) (alike-renewed d (unit_and_ranges d k)) t f)
-  left-opens d (Reset caller) h s e t f = absurd (reset-opens d h t f)
+  left-opens d (Reset caller) h s e t f = absurd (reset-opens d t f)
 
   pub after-opens : (d : Drive) (c : Call) → Sound d → shut_to d ≡ true → shut_to (after d c) ≡ false → Way d (after d c) c (answer d c)
-  after-opens d c h t f = go (refusal d c) refl f
-    where
-      go : (o : Option Cause) → refusal d c ≡ o → shut_to (unless o d (left d c)) ≡ false → Way d (unless o d (left d c)) c (checks.answer o (said d c))
-      go (Some cause) e f = absurd (both_ways (shut_to d) f t)
-      go None e f = left-opens d c h (left-kept d h c e).0 e t f
+  after-opens d c h t f = by_option (refusal d c) (λ o. shut_to (unless o d (left d c)) ≡ false → Way d (unless o d (left d c)) c (checks.answer o (said d c)))
+      (λ e f. left-opens d c h (left-kept d h c e).0 e t f)
+      (λ _ _ f. absurd (both_ways (shut_to d) f t))
+      f

@@ -1,13 +1,42 @@
--- Rows with their numbers.
-use Rattle.std.proofs.Common.{◌≡◌, ℕ, suc, ◌+◌, ◌<◌, Bool, true, false, cond, List, [], ◌∷◌, map, length, filter, sym, refl, ap, ◌∙◌, subst, inl, inr, add-one, arith}
-use Rattle.std.proofs.lemmas.Bool.{cases_lt}
+-- Rows with their numbers, and the bits of a selection.
+use Rattle.std.proofs.Common.{◌≡◌, ℕ, zero, suc, ◌/◌, ◌%◌, ◌^◌, ◌<◌, true, eqb, ◌≢◌, List, [], ◌∷◌, map, sym, refl, ap, ◌∙◌, inl, inr, div-one, add-one, arith, shr_lt, ◌+◌, false, cond, length, filter, subst}
+use native.Mathlib.Nat.{div-div-eq-div-mul, pow-succ'}
+use Rattle.std.proofs.lemmas.Bool.{cases_Bool, eqb-false, cases_lt, cond_both}
+use Rattle.std.proofs.lemmas.Bool.Decides.{nat_tests}
 use Rattle.std.proofs.lemmas.List.{length-map, get_or-map, get_or_past}
 use Rattle.std.proofs.lemmas.List.FromFn.{length-enumerate_from, get_or-enumerate_from}
 use Rattle.std.specs.List.{enumerate_from}
 use Rattle.rules.specs.declared.row.Row.{Row}
 use Rattle.rules.specs.declared.row.Sought.{Sought}
-use Rattle.rules.specs.Rows.{free_row, row, suits, numbered, all_rows}
+use Rattle.rules.specs.Methods.{selected}
+use Rattle.rules.specs.Rows.{row, free_row, suits, numbered, all_rows}
 
+pub map-alike : {X : Type 0} (f : Row → X) (make : Row → Row) → ((r : Row) → f (make r) ≡ f r) → (rows : List Row) (i : ℕ) → f (row i (map make rows)) ≡ f (row i rows)
+map-alike f make same [] i = refl
+map-alike f make same (r ∷ rs) zero = same r
+map-alike f make same (r ∷ rs) (suc i) = map-alike f make same rs i
+
+-- the lowest bit, and the others as those of the half
+pub selected-lowest : (selection : ℕ) → selected selection 0 ≡ eqb (selection % 2) 1
+selected-lowest selection = ap (λ m. eqb (m % 2) 1) (div-one selection)
+
+pub selected-half : (selection r : ℕ) → selected selection (suc r) ≡ selected (selection / 2) r
+selected-half selection r = ap (λ m. eqb (m % 2) 1) (ap (λ m. selection / m) (pow-succ' 2 r) ∙ sym (div-div-eq-div-mul selection 2 (2 ^ r)))
+
+-- a selection that is not 0 has a bit below its length
+pub some-bit : (k selection : ℕ) → selection < 2 ^ k → selection ≢ 0 → (r : ℕ) × (r < k) × (selected selection r ≡ true)
+some-bit zero n l z = absurd (z (omega arith))
+some-bit (suc k) n l z = elim (cases_Bool (eqb (n % 2) 1)) [
+  | inl t ↦ (0, omega arith, selected-lowest n ∙ t)
+  | inr f ↦
+      let odd = eqb-false (n % 2) 1 f in
+      let half : n / 2 ≢ 0 = (λ e. z (omega arith)) in
+      let less : n / 2 ^ 1 < 2 ^ k = shr_lt k 1 (rw add-one l) in
+      let p = some-bit k (n / 2) less half in
+      (suc p.0, omega (arith, p.1), selected-half n p.0 ∙ p.2)
+]
+
+-- ---- rows with their numbers
 -- each row made into another by its number
 abbrev pub each_row_by : (ℕ → Row → Row) → List Row → List Row
 each_row_by make rows = map (λ entry. make entry.0 entry.1) (numbered rows)
@@ -49,28 +78,14 @@ numbers es = map (λ entry. entry.0) es
 
 filter-higher : (w : Sought) (es : List (ℕ × Row)) → numbers (filter (λ entry. suits w entry.1) (map higher es)) ≡ map suc (numbers (filter (λ entry. suits w entry.1) es))
 filter-higher w [] = refl
-filter-higher w (e ∷ es) = go (suits w e.1) (filter-higher w es)
-  where
-    go : (b : Bool) → numbers (filter (λ entry. suits w entry.1) (map higher es)) ≡ map suc (numbers (filter (λ entry. suits w entry.1) es))
-        → numbers (cond b (higher e ∷ filter (λ entry. suits w entry.1) (map higher es)) (filter (λ entry. suits w entry.1) (map higher es))) ≡ map suc (numbers (cond b (e ∷ filter (λ entry. suits w entry.1) es) (filter (λ entry. suits w entry.1) es)))
-    go true h = ap (λ ns. suc e.0 ∷ ns) h
-    go false h = h
+filter-higher w (e ∷ es) = let h = filter-higher w es in grind (arith, nat_tests)
 
 pub all-more : (w : Sought) (r : Row) (rs : List Row) → all_rows w (r ∷ rs) ≡ cond (suits w r) (0 ∷ map suc (all_rows w rs)) (map suc (all_rows w rs))
 unfolding all_rows
-all-more w r rs = go (suits w r) (ap (λ es. map (λ entry. entry.0) (filter (λ entry. suits w entry.1) es)) (higher-by 0 rs) ∙ filter-higher w (numbered rs))
-  where
-    tail : List (ℕ × Row)
-    tail = filter (λ entry. suits w entry.1) (enumerate_from (0 + 1) rs)
-
-    go : (b : Bool) → numbers tail ≡ map suc (all_rows w rs) → numbers (cond b ((0, r) ∷ tail) tail) ≡ cond b (0 ∷ map suc (all_rows w rs)) (map suc (all_rows w rs))
-    go true h = ap (λ ns. 0 ∷ ns) h
-    go false h = h
+all-more w r rs =
+    let h : numbers (filter (λ entry. suits w entry.1) (enumerate_from (0 + 1) rs)) ≡ map suc (all_rows w rs) = ap (λ es. numbers (filter (λ entry. suits w entry.1) es)) (higher-by 0 rs) ∙ filter-higher w (numbered rs) in
+    grind (arith, nat_tests)
 
 -- what holds of the numbers with and without the first row
 pub all-by : (w : Sought) (r : Row) (rs : List Row) (P : List ℕ → Type 0) → (suits w r ≡ true → P (0 ∷ map suc (all_rows w rs))) → (suits w r ≡ false → P (map suc (all_rows w rs))) → P (all_rows w (r ∷ rs))
-all-by w r rs P with without = subst P (sym (all-more w r rs)) (go (suits w r) refl)
-  where
-    go : (b : Bool) → suits w r ≡ b → P (cond b (0 ∷ map suc (all_rows w rs)) (map suc (all_rows w rs)))
-    go true e = with e
-    go false e = without e
+all-by w r rs P with without = subst P (sym (all-more w r rs)) (cond_both (suits w r) (0 ∷ map suc (all_rows w rs)) (map suc (all_rows w rs)) P with without)

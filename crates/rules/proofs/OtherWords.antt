@@ -1,12 +1,12 @@
 -- What some of the definitions come to, in other words.
-use Rattle.std.proofs.Common.{◌≡◌, ℕ, zero, suc, ◌+◌, ◌/◌, ◌%◌, ◌^◌, ◌<◌, ◌≤◌, max, Bool, true, false, cond, not, ◌||◌, eqb, ltb, leb, List, [], ◌∷◌, map, length, Some, None, Ok, filter, Option, sym, refl, ap, ◌∙◌, subst, inl, inr, add-one, arith, shr_lt}
+use Rattle.std.proofs.Common.{◌≡◌, ℕ, zero, suc, ◌+◌, ◌/◌, ◌%◌, ◌^◌, ◌<◌, ◌≤◌, max, Bool, true, false, cond, not, ◌||◌, eqb, ltb, leb, List, [], ◌∷◌, map, length, Some, None, filter, Option, sym, refl, ap, ◌∙◌, subst, inl, inr, add-one, arith, shr_lt}
 use lib.Count.{ones, ones_in, ones_step}
 use Rattle.std.proofs.lemmas.Bool.Decides.{nat_tests}
-use Rattle.std.proofs.lemmas.Bool.{cases_eq, leb-false, eqb-true, eqb-false, or_parts}
+use Rattle.std.proofs.lemmas.Bool.{cases_Bool, cases_eq, leb-false, eqb-true, eqb-false, or_parts}
 use Rattle.std.specs.List.{find, range_with_len}
 use Rattle.std.specs.Option.{option_or}
-use Rattle.vault.specs.Checks as checks
 use Rattle.vault.specs.Checks.{first_of, unless}
+use Rattle.vault.proofs.Checks.{accepted-with}
 use Rattle.rules.specs.declared.call.Accepted.TheVariants.{SingleUserRows}
 use Rattle.rules.specs.declared.call.Call.{Call}
 use Rattle.rules.specs.declared.call.Call.TheVariants.{Reactivate}
@@ -15,17 +15,14 @@ use Rattle.rules.specs.declared.cause.Cause.TheVariants.{NoSuchUnit, BlockOutOfR
 use Rattle.rules.specs.declared.row.Row.{Row}
 use Rattle.rules.specs.declared.row.Standing.TheVariants.{Shared, SingleUser}
 use Rattle.rules.specs.Calls.{refusal, after, answer}
-use Rattle.rules.specs.Drive.{Drive}
 use Rattle.rules.specs.Laws.{point}
 use Rattle.rules.specs.Meanings.{SharingIsACommonBlock, DeniedAtFirstLockedBlock, GrantedWhereNoneLocked, single_user_rows, ReactivateCountsRows}
 use Rattle.rules.specs.Methods.{reactivate_checks, selected, reactivated_row, reactivated}
 use Rattle.rules.specs.Questions.{block_locked, first_locked, denied_at}
 use Rattle.rules.specs.Rows.{blank, is_single_user, numbered, controlling_row}
-use Rattle.rules.specs.Sound.{Sound}
 use Rattle.rules.specs.Units.{exists, unit}
-use Rattle.rules.proofs.Accepted.{neither, passed-in}
-use Rattle.rules.proofs.Numbered.{each_row_by, each-more}
-use Rattle.rules.proofs.Selections.{selected-lowest, selected-half}
+use Rattle.rules.proofs.Sounds.{neither, passed-in}
+use Rattle.rules.proofs.Numbered.{each_row_by, each-more, selected-lowest, selected-half}
 use Rattle.rules.proofs.Whole.{stays-sound, next-point, answered}
 
 pub sharing-is-a-common-block : SharingIsACommonBlock
@@ -35,34 +32,19 @@ sharing-is-a-common-block s l a m = ((λ e. (max s a, grind (arith, nat_tests), 
 module _ (test : ℕ → Bool) where
   first_found : (from count b : ℕ) → find test (range_with_len from count) ≡ Some b → (from ≤ b) × (b < from + count) × (test b ≡ true) × ((c : ℕ) → from ≤ c → c < b → test c ≡ false)
   first_found from zero b e = absurd cc
-  first_found from (suc count) b e = go (test from) refl e (first_found (from + 1) count b)
-    where
-      go : (t : Bool) → test from ≡ t → cond t (Some from) (find test (range_with_len (from + 1) count)) ≡ Some b
-          → (find test (range_with_len (from + 1) count) ≡ Some b → (from + 1 ≤ b) × (b < from + 1 + count) × (test b ≡ true) × ((c : ℕ) → from + 1 ≤ c → c < b → test c ≡ false))
-          → (from ≤ b) × (b < from + suc count) × (test b ≡ true) × ((c : ℕ) → from ≤ c → c < b → test c ≡ false)
-      go true t e ih = let q : from ≡ b = cc in (omega arith, omega arith, ap test (sym q) ∙ t, λ c l g. absurd (let y : ⊥ = omega arith in y))
-      go false t e ih =
-          let p = ih e in (
-            omega (arith, p.0),
-            omega (arith, p.1),
-            p.2,
-            λ c l g. elim (cases_eq c from) [
-              | inl same ↦ ap test same ∙ t
-              | inr other ↦ p.3 c (omega arith) g
-            ],
-          )
+  first_found from (suc count) b e = elim (cases_Bool (test from)) [
+    | inl t ↦ let q : from ≡ b = grind (arith, nat_tests) in (omega arith, omega arith, ap test (sym q) ∙ t, λ c l g. absurd (let y : ⊥ = omega arith in y))
+    | inr t ↦
+        let p = first_found (from + 1) count b (grind (arith, nat_tests)) in
+        (omega (arith, p.0), omega (arith, p.1), p.2, λ c l g. elim (cases_eq c from) [ inl same ↦ ap test same ∙ t | inr other ↦ p.3 c (omega arith) g ])
+  ]
 
   none_found : (from count : ℕ) → find test (range_with_len from count) ≡ None → (c : ℕ) → from ≤ c → c < from + count → test c ≡ false
   none_found from zero e c l g = absurd (let y : ⊥ = omega arith in y)
-  none_found from (suc count) e c l g = go (test from) refl e (none_found (from + 1) count)
-    where
-      go : (t : Bool) → test from ≡ t → cond t (Some from) (find test (range_with_len (from + 1) count)) ≡ None
-          → (find test (range_with_len (from + 1) count) ≡ None → (c : ℕ) → from + 1 ≤ c → c < from + 1 + count → test c ≡ false) → test c ≡ false
-      go true t e ih = absurd cc
-      go false t e ih = elim (cases_eq c from) [
-        | inl same ↦ ap test same ∙ t
-        | inr other ↦ ih e c (omega arith) (omega arith)
-      ]
+  none_found from (suc count) e c l g = elim (cases_eq c from) [
+    | inl same ↦ ap test same ∙ grind (arith, nat_tests)
+    | inr other ↦ none_found (from + 1) count (grind (arith, nat_tests)) c (omega arith) (omega arith)
+  ]
 
 -- the checks before it deny no block
 before-it : (a b c : Bool) (o : Option Cause) (block r : ℕ) → option_or (first_of ((a, Closed) ∷ (b, NoSuchUnit) ∷ (c, BlockOutOfRange) ∷ [])) o ≡ Some (BlockLocked block r) → o ≡ Some (BlockLocked block r)
@@ -124,14 +106,10 @@ reactivate-counts-rows d b calls k caller selection policy count lt is told =
     let p = point d calls k in
     let h = stays-sound d b calls k (omega arith) in
     let c : Call = Reactivate caller selection policy in
-    let e : answer p c ≡ Ok (SingleUserRows count) = ap (answer p) (sym is) ∙ sym (answered d calls k lt) ∙ told in
-    ap single_user_rows (next-point d calls k lt ∙ ap (after p) is) ∙ go p h (refusal p c) refl e
-  where
-    go : (p : Drive) → Sound p → (o : Option Cause) → refusal p (Reactivate caller selection policy) ≡ o → checks.answer o (SingleUserRows (ones selection)) ≡ Ok (SingleUserRows count)
-        → single_user_rows (unless o p (reactivated p selection policy)) ≡ count
-    go p h (Some cause) r q = absurd cc
-    go p h None r q =
-        let checked = passed-in p (reactivate_checks p caller selection policy) caller r in
-        let small = leb-false (2 ^ 17) selection (or_parts (leb (2 ^ 17) selection) (ltb 1 policy) checked.1.0).0 in
-        let same : ones selection ≡ count = cc in
-        count-rows p.rows selection (subst (λ n. selection < 2 ^ n) (sym h.rows.seventeen) small) ∙ same
+    let e = accepted-with (refusal p c) (SingleUserRows count) (SingleUserRows (ones selection)) (sym (ap (answer p) (sym is) ∙ sym (answered d calls k lt) ∙ told)) in
+    let checked = passed-in p (reactivate_checks p caller selection policy) caller e.0 in
+    let small = leb-false (2 ^ 17) selection (or_parts (leb (2 ^ 17) selection) (ltb 1 policy) checked.1.0).0 in
+    let same : ones selection ≡ count = (let q = e.1 in cc) in
+    ap single_user_rows (next-point d calls k lt ∙ ap (after p) is ∙ ap (λ o. unless o p (reactivated p selection policy)) e.0)
+    ∙ count-rows p.rows selection (subst (λ n. selection < 2 ^ n) (sym h.rows.seventeen) small)
+    ∙ same

@@ -4,8 +4,8 @@ use Rattle.std.proofs.lemmas.Bool.Decides.{nat_tests}
 use Rattle.std.proofs.lemmas.Bool.{and_parts, and_from, eq-eqb, leb-true}
 use Rattle.std.specs.List.{AllByRecursion}
 use Rattle.packed.proofs.Order.{length-insert}
-use Rattle.vault.proofs.Requests.{room}
 use Rattle.vault.specs.Serials.{adds, collect}
+use Rattle.vault.proofs.Requests.{room}
 use Rattle.rules.specs.declared.numbering.Bounds.{Bounds}
 use Rattle.rules.specs.declared.row.Kind.{Kind}
 use Rattle.rules.specs.declared.row.Kind.TheVariants.{Free, Global, UnitRow, RangeRow}
@@ -18,7 +18,7 @@ use Rattle.rules.specs.Rows.{row, is_range_row, key_or, covers, unit_row_of, ran
 use Rattle.rules.specs.Sound.{unit_fits, row_fits, serial_of, row_key, Sound}
 use Rattle.rules.specs.Units.{valid}
 use Rattle.rules.proofs.Blocks.{unit-row-is}
-use Rattle.rules.proofs.Holders.{key-held, key-different, key-owned}
+use Rattle.rules.proofs.Places.{key-held, key-different, key-owned}
 use Rattle.rules.proofs.RowsKept.{fits-exists, fits_under, fits-inside, fits-key}
 use Rattle.rules.proofs.Searches.{at_there}
 

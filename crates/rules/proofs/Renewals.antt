@@ -1,5 +1,5 @@
--- Fresh keys: a drive stays in order, and the vault refuses nothing.
-use Rattle.std.proofs.Common.{◌≡◌, ℕ, suc, ◌+◌, ◌<◌, ◌≤◌, Bool, true, false, cond, not, ◌&&◌, ◌||◌, eqb, List, [], ◌∷◌, length, get_or, set, Some, None, filter, Option, unwrap_or, sym, refl, ap, ◌∙◌, arith}
+-- Fresh keys: a drive stays in order, the vault refuses nothing, and no range, flag or size changes.
+use Rattle.std.proofs.Common.{◌≡◌, ℕ, suc, ◌+◌, ◌<◌, ◌≤◌, true, cond, not, ◌&&◌, ◌||◌, eqb, List, [], ◌∷◌, length, get_or, set, None, filter, Option, unwrap_or, sym, refl, ap, ◌∙◌, arith}
 use Rattle.std.proofs.ByRecursion.{All-weaker, All-map, all_kept_by}
 use Rattle.std.proofs.lemmas.List.{length-set}
 use Rattle.std.proofs.lemmas.Bool.Decides.{nat_tests}
@@ -7,9 +7,10 @@ use Rattle.std.proofs.lemmas.Bool.{and_from, lt-ltb, true≢false}
 use Rattle.std.specs.Option.{option_map}
 use Rattle.std.specs.List.{AllByRecursion}
 use Rattle.packed.specs.Rising.{has, lookup}
-use Rattle.packed.proofs.Order.{lookup-found, length-change, change-found}
+use Rattle.packed.proofs.Order.{length-change, rises-change, change-found}
 use Rattle.vault.specs.Kinds.{can_be_capacity}
 use Rattle.vault.specs.Meaning.{swap_refusal, swap_after}
+use Rattle.vault.proofs.Checks.{by_option}
 use Rattle.rules.specs.declared.row.Kind.{Kind}
 use Rattle.rules.specs.declared.row.Kind.TheVariants.{Free, Global, UnitRow, RangeRow}
 use Rattle.rules.specs.declared.row.Row.{Row}
@@ -21,16 +22,15 @@ use Rattle.rules.specs.declared.unit.LogicalUnit.{LogicalUnit}
 use Rattle.rules.specs.Drive.{Drive}
 use Rattle.rules.specs.FreshKeys.{key_of, HasKey, fresh_key, fresh_keys, units_under_global, holders_of, unit_and_ranges}
 use Rattle.rules.specs.Requests.{NoneRefused, swaps}
-use Rattle.rules.specs.Rows.{row, is_free, is_range_row, key_or, with_serial, is_single_user, with_kind, unit_row_of, range_row_of, range_over, suits, is_there, all_rows}
+use Rattle.rules.specs.Rows.{row, is_free, is_range_row, key_or, with_serial, is_single_user, with_kind, unit_row_of, range_row_of, range_over, suits, is_there, all_rows, controlling_row}
 use Rattle.rules.specs.Sound.{unit_fits, SoundUnits, is_global, row_fits, serials, Sound}
 use Rattle.rules.specs.Units.{no_unit, exists, unit, with_key}
-use Rattle.rules.proofs.Keys.{keys-as, swap-capacity, swap-done, swap-keys}
-use Rattle.rules.proofs.Lookups.{place_of, lookup-change, has-change, rises-change, all-change}
-use Rattle.rules.proofs.Places.{range-parts, unit-place, place, key-nonzero}
+use Rattle.rules.proofs.Keys.{keys-as, swap-capacity, swap-kept}
+use Rattle.rules.proofs.Lookups.{place_of, lookup-change, has-change, all-change}
+use Rattle.rules.proofs.Places.{range-parts, place, key-nonzero, unit-written, row_written}
 use Rattle.rules.proofs.RowsKept.{any_same, within, in_table, no_other, fits-exists, fits_under, fits-inside, rows-range, rows-units}
 use Rattle.rules.proofs.Numbered.{all-by}
-use Rattle.rules.proofs.Searches.{set-alike}
-use Rattle.rules.proofs.Words.{unit-written, row_written}
+use Rattle.rules.proofs.Searches.{set-alike, control-as}
 
 -- ---- a unit under another key
 module _ (n serial : ℕ) (units : List LogicalUnit) where
@@ -40,61 +40,38 @@ module _ (n serial : ℕ) (units : List LogicalUnit) where
   abbrev keyed : LogicalUnit → LogicalUnit
   keyed u = record { number = u.number; blocks = u.blocks; serial = serial }
 
-  same_number : (u : LogicalUnit) → number_of (keyed u) ≡ number_of u
-  same_number u = refl
-
   pub keyed-exists : (k : ℕ) → exists k (with_key n serial units) ≡ exists k units
-  keyed-exists k = has-change number_of n keyed same_number k units
+  keyed-exists k = has-change number_of n keyed (λ _. refl) k units
 
   keyed-lookup : (k : ℕ) → lookup number_of k (with_key n serial units) ≡ cond (eqb k n) (option_map keyed (lookup number_of k units)) (lookup number_of k units)
-  keyed-lookup k = lookup-change number_of n keyed same_number k units
+  keyed-lookup k = lookup-change number_of n keyed (λ _. refl) k units
 
   pub keyed-blocks : (k : ℕ) → (unit k (with_key n serial units)).blocks ≡ (unit k units).blocks
-  keyed-blocks k = ap (λ (o : Option LogicalUnit). (unwrap_or o no_unit).blocks) (keyed-lookup k) ∙ go (eqb k n) (lookup number_of k units)
-    where
-      go : (b : Bool) (o : Option LogicalUnit) → (unwrap_or (cond b (option_map keyed o) o) no_unit).blocks ≡ (unwrap_or o no_unit).blocks
-      go true None = refl
-      go true (Some u) = refl
-      go false o = refl
+  keyed-blocks k = ap (λ (o : Option LogicalUnit). (unwrap_or o no_unit).blocks) (keyed-lookup k) ∙ by_option (lookup number_of k units) (λ o. (unwrap_or (cond (eqb k n) (option_map keyed o) o) no_unit).blocks ≡ (unwrap_or o no_unit).blocks)
+      (λ _. grind (arith, nat_tests))
+      (λ u _. grind (arith, nat_tests))
 
   -- the key is the new one, or as it was
   pub keyed-serial : (k : ℕ) → exists k units ≡ true → (unit k (with_key n serial units)).serial ≡ cond (eqb k n) serial (unit k units).serial
-  keyed-serial k ex = ap (λ (o : Option LogicalUnit). (unwrap_or o no_unit).serial) (keyed-lookup k) ∙ go (eqb k n) (lookup number_of k units) (is-there k ex)
-    where
-      is-there : (k : ℕ) → exists k units ≡ true → (u : LogicalUnit) × (lookup number_of k units ≡ Some u)
-      is-there k ex = let p = place_of number_of k units ex in (get_or units p.0 no_unit, lookup-found number_of k units p.0 p.1 no_unit)
-
-      go : (b : Bool) (o : Option LogicalUnit) → (u : LogicalUnit) × (o ≡ Some u) → (unwrap_or (cond b (option_map keyed o) o) no_unit).serial ≡ cond b serial (unwrap_or o no_unit).serial
-      go b None p = absurd (let z : ◌≡◌ {A = ℕ} 0 1 = let q = p.1 in cc in let y : ⊥ = omega arith in y)
-      go true (Some u) p = refl
-      go false (Some u) p = refl
+  keyed-serial k ex = let f = keyed-lookup k in let p = (place_of number_of k units no_unit ex).4 in grind (arith, nat_tests)
 
   pub keyed-units : (bounds : _) → 0 < serial → SoundUnits bounds units → SoundUnits bounds (with_key n serial units)
   keyed-units bounds p h = record {
     few = omega (arith, length-change number_of n keyed units, h.few);
-    ordered = rises-change number_of n keyed same_number 0 units ∙ h.ordered;
-    each = all-change number_of n keyed same_number (λ u. unit_fits bounds u ≡ true) (λ u f. let t = lt-ltb 0 serial p in grind (arith, nat_tests)) units h.each;
+    ordered = rises-change number_of n keyed (λ _ _. refl) 0 units ∙ h.ordered;
+    each = all-change number_of n keyed (λ _. refl) (λ u. unit_fits bounds u ≡ true) (λ u f. let t = lt-ltb 0 serial p in grind (arith, nat_tests)) units h.each;
   }
 
 -- ---- one fresh key
--- what is looked for does not ask for a serial
-pub unit-row-same : (n : ℕ) (kind : Kind) (s : ℕ) → unit_row_of n (with_serial s kind) ≡ unit_row_of n kind
-unit-row-same n Free s = refl
-unit-row-same n Global s = refl
-unit-row-same n (UnitRow u) s = refl
-unit-row-same n (RangeRow u a l k) s = refl
+-- what is the same under every serial
+abbrev pub SerialApart : {X : Type 0} → (Kind → X) → Type 0
+SerialApart f = (n start len serial s : ℕ) → f (RangeRow n start len s) ≡ f (RangeRow n start len serial)
 
-pub range-over-same : (n block : ℕ) (kind : Kind) (s : ℕ) → range_over n block (with_serial s kind) ≡ range_over n block kind
-range-over-same n block Free s = refl
-range-over-same n block Global s = refl
-range-over-same n block (UnitRow u) s = refl
-range-over-same n block (RangeRow u a l k) s = refl
-
-range_same : (kind : Kind) (s : ℕ) → is_range_row (with_serial s kind) ≡ is_range_row kind
-range_same Free s = refl
-range_same Global s = refl
-range_same (UnitRow u) s = refl
-range_same (RangeRow u a l k) s = refl
+pub serial-apart : {X : Type 0} (f : Kind → X) → SerialApart f → (s : ℕ) (kind : Kind) → f (with_serial s kind) ≡ f kind
+serial-apart f same s Free = refl
+serial-apart f same s Global = refl
+serial-apart f same s (UnitRow u) = refl
+serial-apart f same s (RangeRow u a l k) = same u a l k s
 
 -- a row's parts after it is rekeyed
 module _ (d : Drive) (r : ℕ) where
@@ -104,12 +81,13 @@ module _ (d : Drive) (r : ℕ) where
 module _ (d : Drive) (h : Sound d) (more : d.next < 4294967295) where
   unit-sound : (n : ℕ) → exists n d.units ≡ true → Sound (fresh_key d (TheUnit n)) × (swap_refusal d.vault (key_of d (TheUnit n)) d.next ≡ None)
   unit-sound n ex =
-      let p = unit-place d n ex in
+      let p = place_of (λ (u : LogicalUnit). u.number) n d.units no_unit ex in
       let i = p.0 in
       let at = place d h (TheUnit n) ex in
       let z = key-nonzero d h (TheUnit n) ex in
       let v : LogicalUnit = record { number = (get_or d.units i no_unit).number; blocks = (get_or d.units i no_unit).blocks; serial = d.next } in
-      let e : serials (with_key n d.next d.units) d.rows ≡ set (serials d.units d.rows) i d.next = ap (λ us. serials us d.rows) (change-found (λ (u : LogicalUnit). u.number) n (λ u. record { number = u.number; blocks = u.blocks; serial = d.next }) d.units i p.1 no_unit) ∙ unit-written d.units d.rows i p.2 v in (
+      let e : serials (with_key n d.next d.units) d.rows ≡ set (serials d.units d.rows) i d.next = ap (λ us. serials us d.rows) (change-found (λ (u : LogicalUnit). u.number) n (λ u. record { number = u.number; blocks = u.blocks; serial = d.next }) d.units i p.1 no_unit) ∙ unit-written d.units d.rows i p.2 v in
+      let swap = swap-kept d.next d.vault (serials d.units d.rows) h.keys h.next.0 i (unit n d.units).serial at.1 at.2 z in (
         record {
           usable = h.usable;
           capacity = ap can_be_capacity (swap-capacity d.vault (unit n d.units).serial d.next) ∙ h.capacity;
@@ -117,9 +95,9 @@ module _ (d : Drive) (h : Sound d) (more : d.next < 4294967295) where
           policy = h.policy;
           units = keyed-units n d.next d.units d.numbering h.next.0 h.units;
           rows = rows-units d.units d.rows h.rows (with_key n d.next d.units) (λ k x _. (keyed-exists n d.next d.units k ∙ x, keyed-blocks n d.next d.units k));
-          keys = keys-as (d.next + 1) (swap_after d.vault (unit n d.units).serial d.next) _ _ e (swap-keys d.next d.vault (serials d.units d.rows) h.keys h.next.0 i (unit n d.units).serial at.1 at.2 z);
+          keys = keys-as (d.next + 1) (swap_after d.vault (unit n d.units).serial d.next) _ _ e swap.1;
         },
-        swap-done d.next d.vault (serials d.units d.rows) h.keys h.next.0 i (unit n d.units).serial at.1 at.2 z,
+        swap.0,
       )
 
   row-sound : (r : ℕ) → is_range_row (row r d.rows).kind ≡ true → Sound (fresh_key d (TheRow r)) × (swap_refusal d.vault (key_of d (TheRow r)) d.next ≡ None)
@@ -137,7 +115,8 @@ module _ (d : Drive) (h : Sound d) (more : d.next < 4294967295) where
       let xe : x.kind ≡ RangeRow n start len d.next = ap (with_serial d.next) e in
       let at = place d h (TheRow r) is in
       let z = key-nonzero d h (TheRow r) is in
-      let ew : serials d.units (set d.rows r x) ≡ set (serials d.units d.rows) (length d.units + r) d.next = row_written d.units d.rows r lr x ∙ ap (λ k. set (serials d.units d.rows) (length d.units + r) (key_or k 0)) xe in (
+      let ew : serials d.units (set d.rows r x) ≡ set (serials d.units d.rows) (length d.units + r) d.next = row_written d.units d.rows r lr x ∙ ap (λ k. set (serials d.units d.rows) (length d.units + r) (key_or k 0)) xe in
+      let swap = swap-kept d.next d.vault (serials d.units d.rows) h.keys h.next.0 (length d.units + r) (key_or (row r d.rows).kind 0) at.1 at.2 z in (
         record {
           usable = h.usable;
           capacity = ap can_be_capacity (swap-capacity d.vault (key_or (row r d.rows).kind 0) d.next) ∙ h.capacity;
@@ -147,9 +126,9 @@ module _ (d : Drive) (h : Sound d) (more : d.next < 4294967295) where
           rows = rows-range d.units d.rows h.rows r n start len d.next x l (ap is_global e) (λ m. ap (unit_row_of m) e) xe
               (fits-exists d.units d.rows n start len serial f) (fits_under d.units d.rows n start len serial f) (fits-inside d.units d.rows n start len serial f) (lt-ltb 0 d.next h.next.0)
               (λ block i c ne. no_other d.units d.rows h.rows (RangeOver n block) (h.rows.ranges n block) r (ap (range_over n block) e ∙ and_from (eqb n n) _ (grind (arith, nat_tests)) c) i ne);
-          keys = keys-as (d.next + 1) (swap_after d.vault (key_or (row r d.rows).kind 0) d.next) _ _ ew (swap-keys d.next d.vault (serials d.units d.rows) h.keys h.next.0 (length d.units + r) (key_or (row r d.rows).kind 0) at.1 at.2 z);
+          keys = keys-as (d.next + 1) (swap_after d.vault (key_or (row r d.rows).kind 0) d.next) _ _ ew swap.1;
         },
-        swap-done d.next d.vault (serials d.units d.rows) h.keys h.next.0 (length d.units + r) (key_or (row r d.rows).kind 0) at.1 at.2 z,
+        swap.0,
       )
 
   pub fresh-sound : (holder : Holder) → HasKey d holder → Sound (fresh_key d holder) × (swap_refusal d.vault (key_of d holder) d.next ≡ None)
@@ -161,9 +140,9 @@ pub valid-kept : (d : Drive) (by holder : Holder) → HasKey d holder → HasKey
 valid-kept d (TheUnit n) (TheUnit k) v = keyed-exists n d.next d.units k ∙ v
 valid-kept d (TheUnit n) (TheRow r) v = v
 valid-kept d (TheRow q) (TheUnit k) v = v
-valid-kept d (TheRow q) (TheRow r) v = set-alike d.rows q (rekeyed_row d q) (λ y. is_range_row y.kind) (range_same (row q d.rows).kind d.next) r ∙ v
+valid-kept d (TheRow q) (TheRow r) v = set-alike d.rows q (rekeyed_row d q) (λ y. is_range_row y.kind) (serial-apart is_range_row (λ _ _ _ _ _. refl) d.next (row q d.rows).kind) r ∙ v
 
-fresh-next : (d : Drive) (holder : Holder) → (fresh_key d holder).next ≡ d.next + 1
+pub fresh-next : (d : Drive) (holder : Holder) → (fresh_key d holder).next ≡ d.next + 1
 fresh-next d (TheUnit n) = refl
 fresh-next d (TheRow r) = refl
 
@@ -214,3 +193,55 @@ valid-of-unit d n ex = (
   All-map (HasKey d) TheRow (all_rows (RangeRowOf n) d.rows)
       (All-weaker (λ r. suits (RangeRowOf n) (row r d.rows) ≡ true) (λ r. is_range_row (row r d.rows).kind ≡ true) (λ r e. range-row-is n (row r d.rows).kind e) (all_rows (RangeRowOf n) d.rows) (all-rows (RangeRowOf n) d.rows)),
 )
+
+-- ---- drives that differ in keys alone
+-- a row's kind but for its key
+abbrev pub bare : Row → Kind
+bare r = with_serial 0 r.kind
+
+pub record Alike (d e : Drive) : Type 0 where
+  pub long : length e.rows ≡ length d.rows
+  pub kinds : (i : ℕ) → bare (row i e.rows) ≡ bare (row i d.rows)
+  pub flags : (i : ℕ) → (row i e.rows).flags ≡ (row i d.rows).flags
+  pub there : (n : ℕ) → exists n e.units ≡ exists n d.units
+  pub blocks : (n : ℕ) → (unit n e.units).blocks ≡ (unit n d.units).blocks
+
+alike-itself : (d : Drive) → Alike d d
+alike-itself d = record { long = refl; kinds = λ i. refl; flags = λ i. refl; there = λ n. refl; blocks = λ n. refl }
+
+alike-on : (d e f : Drive) → Alike d e → Alike e f → Alike d f
+alike-on d e f p q = record {
+  long = q.long ∙ p.long;
+  kinds = λ i. q.kinds i ∙ p.kinds i;
+  flags = λ i. q.flags i ∙ p.flags i;
+  there = λ n. q.there n ∙ p.there n;
+  blocks = λ n. q.blocks n ∙ p.blocks n;
+}
+
+pub alike-fresh : (d : Drive) (holder : Holder) → Alike d (fresh_key d holder)
+alike-fresh d (TheUnit n) = record {
+  long = refl;
+  kinds = λ i. refl;
+  flags = λ i. refl;
+  there = keyed-exists n d.next d.units;
+  blocks = keyed-blocks n d.next d.units;
+}
+alike-fresh d (TheRow r) = record {
+  long = length-set d.rows r (rekeyed_row d r);
+  kinds = set-alike d.rows r (rekeyed_row d r) bare (serial-apart (with_serial 0) (λ _ _ _ _ _. refl) d.next (row r d.rows).kind);
+  flags = set-alike d.rows r (rekeyed_row d r) (λ (y : Row). y.flags) refl;
+  there = λ n. refl;
+  blocks = λ n. refl;
+}
+
+pub alike-renewed : (d : Drive) (holders : List Holder) → Alike d (fresh_keys d holders)
+unfolding fresh_keys
+alike-renewed d [] = alike-itself d
+alike-renewed d (holder ∷ holders) = alike-on d (fresh_key d holder) (fresh_keys (fresh_key d holder) holders) (alike-fresh d holder) (alike-renewed (fresh_key d holder) holders)
+
+module _ (d e : Drive) (a : Alike d e) where
+  pub alike-kind : {X : Type 0} (f : Kind → X) → SerialApart f → (i : ℕ) → f (row i e.rows).kind ≡ f (row i d.rows).kind
+  alike-kind f same i = sym (serial-apart f same 0 (row i e.rows).kind) ∙ ap f (a.kinds i) ∙ serial-apart f same 0 (row i d.rows).kind
+
+  pub alike-control : (n block : ℕ) → controlling_row e.rows n block ≡ controlling_row d.rows n block
+  alike-control n block = control-as d.rows n block e.rows a.long (alike-kind (range_over n block) (λ _ _ _ _ _. refl)) (alike-kind (unit_row_of n) (λ _ _ _ _ _. refl))

@@ -1,16 +1,17 @@
 -- When the rows are still in order.
-use Rattle.std.proofs.Common.{◌≡◌, ℕ, zero, suc, ◌+◌, ◌<◌, Bool, true, false, ◌&&◌, ◌||◌, eqb, ltb, leb, ◌≢◌, List, [], ◌∷◌, length, set, is_some, sym, refl, ap, ◌∙◌, inl, inr, arith}
+use Rattle.std.proofs.Common.{◌≡◌, ℕ, zero, suc, ◌+◌, ◌<◌, Bool, true, false, ◌&&◌, ◌||◌, eqb, ltb, leb, ◌≢◌, List, [], ◌∷◌, length, get_or, set, is_some, sym, refl, ap, ◌∙◌, inl, inr, arith}
 use Rattle.std.proofs.lemmas.Bool.Decides.{nat_tests}
 use Rattle.std.proofs.lemmas.List.{length-set, get_or_past}
-use Rattle.std.specs.List.{list_any}
-use Rattle.std.proofs.lemmas.Bool.{cases_Bool, cases_lt, both_ways, and_parts, and_from, eqb-true, true≢false}
+use Rattle.std.proofs.lemmas.List.Folds.{list_any_at}
+use Rattle.std.specs.List.{All, list_any}
+use Rattle.std.proofs.lemmas.Bool.{cases_Bool, cases_lt, both_ways, and_parts, and_from, eqb-true, true≢false, false_from_ne_true}
 use Rattle.rules.specs.declared.row.Kind.{Kind}
 use Rattle.rules.specs.declared.row.Kind.TheVariants.{Free, Global, UnitRow, RangeRow}
 use Rattle.rules.specs.declared.row.Row.{Row}
 use Rattle.rules.specs.declared.row.Sought.{Sought}
 use Rattle.rules.specs.declared.row.Sought.TheVariants.{UnitRowOf, RangeOver}
 use Rattle.rules.specs.declared.unit.LogicalUnit.{LogicalUnit}
-use Rattle.rules.specs.Rows.{blank, free_row, row, is_free, covers, unit_row_of, range_over, range_sharing, suits, lowest_row, is_there}
+use Rattle.rules.specs.Rows.{blank, free_row, row, is_free, covers, unit_row_of, range_over, range_sharing, suits, is_there}
 use Rattle.rules.specs.Sound.{is_global, row_fits, AtMostOne, SoundRows}
 use Rattle.rules.specs.Units.{exists, unit}
 use Rattle.rules.proofs.Searches.{first-same, missed, not_there, there, there-kept, one_kept, each_row, unwritten}
@@ -22,13 +23,8 @@ any_same test [] (y ∷ ys) n e = absurd (let b : ⊥ = omega arith in b)
 any_same test (x ∷ xs) [] n e = absurd (let b : ⊥ = omega arith in b)
 any_same test (x ∷ xs) (y ∷ ys) n e = ap (λ b. b || list_any test xs) (e 0) ∙ ap (λ b. test y || b) (any_same test xs ys (omega arith) (λ i. e (suc i)))
 
-pub any_none : (test : Row → Bool) (rows : List Row) → list_any test rows ≡ false → (i : ℕ) → i < length rows → test (row i rows) ≡ false
-any_none test [] f i l = absurd (let b : ⊥ = omega arith in b)
-any_none test (x ∷ xs) f zero l = grind (arith, nat_tests)
-any_none test (x ∷ xs) f (suc i) l = any_none test xs (let r : list_any test xs ≡ false = grind (arith, nat_tests) in r) i (omega arith)
-
-pub any_at : (test : Row → Bool) (rows : List Row) (i : ℕ) → i < length rows → test (row i rows) ≡ true → list_any test rows ≡ true
-any_at test rows i l t = elim (cases_Bool (list_any test rows)) [ inl e ↦ e | inr f ↦ absurd (both_ways (test (row i rows)) (any_none test rows f i l) t) ]
+pub none_passes : {X : Type 0} (test : X → Bool) (xs : List X) → list_any test xs ≡ false → All (λ x. test x ≡ false) xs
+none_passes test xs f i d l = false_from_ne_true (test (get_or xs i d)) (λ t. both_ways (list_any test xs) f (list_any_at test xs i d l t))
 
 -- ---- kinds and searches
 -- a range that shares no block with another does not cover what that one covers
@@ -168,13 +164,6 @@ module _ (units : List LogicalUnit) (rows : List Row) (h : SoundRows units rows)
       (λ m block t i _. absurd (both_ways (range_over m block x.kind) (ap (range_over m block) e) t))
 
   -- ---- all rows keep their kinds
-  pub same-lowest : (ss : List Row) → length ss ≡ length rows → ((i : ℕ) → (row i ss).kind ≡ (row i rows).kind) → (n block : ℕ)
-      → (lowest_row (UnitRowOf n) ss ≡ lowest_row (UnitRowOf n) rows) × (lowest_row (RangeOver n block) ss ≡ lowest_row (RangeOver n block) rows)
-  same-lowest ss n e m block = (
-    first-same (λ y. suits (UnitRowOf m) y) free_row ss rows n (λ i. ap (unit_row_of m) (e i)),
-    first-same (λ y. suits (RangeOver m block) y) free_row ss rows n (λ i. ap (range_over m block) (e i)),
-  )
-
   pub rows_alike : (ss : List Row) → length ss ≡ length rows → ((i : ℕ) → (row i ss).kind ≡ (row i rows).kind) → ((r : ℕ) → r < 17 → is_free (row r rows).kind ≡ true → (row r ss).flags ≡ blank) → SoundRows units ss
   rows_alike ss n e b = record {
     seventeen = n ∙ h.seventeen;
@@ -184,7 +173,7 @@ module _ (units : List LogicalUnit) (rows : List Row) (h : SoundRows units rows)
       | inl l ↦ b r l (ap is_free (sym (e r)) ∙ f)
       | inr g ↦ ap (λ (x : Row). x.flags) (get_or_past ss r free_row (omega (arith, n, h.seventeen)))
     ];
-    each = λ r. ap (row_fits units ss) (e r) ∙ fits-rows units rows ss (row r rows).kind (λ m s t q _ y. ap is_some (same-lowest ss n e m 0).0 ∙ y) (h.each r);
+    each = λ r. ap (row_fits units ss) (e r) ∙ fits-rows units rows ss (row r rows).kind (λ m s t q _ y. ap is_some (first-same (λ y. suits (UnitRowOf m) y) free_row ss rows n (λ i. ap (unit_row_of m) (e i))) ∙ y) (h.each r);
     unit_rows = λ m i j p q. h.unit_rows m i j (ap (unit_row_of m) (sym (e i)) ∙ p) (ap (unit_row_of m) (sym (e j)) ∙ q);
     ranges = λ m block i j p q. h.ranges m block i j (ap (range_over m block) (sym (e i)) ∙ p) (ap (range_over m block) (sym (e j)) ∙ q);
   }

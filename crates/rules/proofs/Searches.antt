@@ -5,10 +5,11 @@ use Rattle.std.proofs.lemmas.Bool.{cases_eq, cases_lt, both_ways}
 use Rattle.std.specs.Option.{option_map}
 use Rattle.packed.specs.First.{first}
 use Rattle.packed.proofs.Search.{found_within, found-passes, when-absent}
+use Rattle.vault.proofs.Checks.{by_option}
 use Rattle.rules.specs.declared.row.Row.{Row}
 use Rattle.rules.specs.declared.row.Sought.{Sought}
 use Rattle.rules.specs.declared.row.Sought.TheVariants.{UnitRowOf, RangeOver}
-use Rattle.rules.specs.Rows.{free_row, row, suits, lowest_row, is_there, row_under, controlling_row}
+use Rattle.rules.specs.Rows.{free_row, row, unit_row_of, range_over, suits, lowest_row, is_there, row_under, controlling_row}
 use Rattle.rules.specs.Sound.{AtMostOne}
 
 -- what is found or not, with the equation
@@ -91,9 +92,6 @@ module _ (rows : List Row) (r : ℕ) (x : Row) where
     | inr g ↦ ap (λ ys. f (row i ys)) (set_past rows r x g)
   ]
 
-  pub lowest-as : (w : Sought) → suits w x ≡ suits w (row r rows) → lowest_row w (set rows r x) ≡ lowest_row w rows
-  lowest-as w e = first-same (λ y. suits w y) free_row (set rows r x) rows (length-set rows r x) (set-alike (suits w) e)
-
   pub there-kept : (w : Sought) → suits w (row r rows) ≡ false → is_there w rows ≡ true → is_there w (set rows r x) ≡ true
   there-kept w o t =
       let p = at_there w rows t in
@@ -126,13 +124,12 @@ module _ (rows : List Row) (n block : ℕ) where
       → ((i : ℕ) → lowest_row (RangeOver n block) rows ≡ None → lowest_row (UnitRowOf n) rows ≡ Some i → Q i)
       → (lowest_row (RangeOver n block) rows ≡ None → lowest_row (UnitRowOf n) rows ≡ None → Q 0)
       → Q (controlling_row rows n block)
-  control-by Q f g z = go (lowest_row (RangeOver n block) rows) refl (lowest_row (UnitRowOf n) rows) refl
-    where
-      go : (a : Option ℕ) → lowest_row (RangeOver n block) rows ≡ a → (c : Option ℕ) → lowest_row (UnitRowOf n) rows ≡ c → Q (unwrap_or a (unwrap_or c 0))
-      go (Some i) p c q = f i p
-      go None p (Some i) q = g i p q
-      go None p None q = z p q
+  control-by Q f g z = by_option (lowest_row (RangeOver n block) rows) (λ a. Q (unwrap_or a (row_under rows n)))
+      (λ p. by_option (lowest_row (UnitRowOf n) rows) (λ c. Q (unwrap_or c 0)) (z p) (λ i q. g i p q))
+      f
 
-  pub control-as : (ss : List Row) → lowest_row (RangeOver n block) ss ≡ lowest_row (RangeOver n block) rows → lowest_row (UnitRowOf n) ss ≡ lowest_row (UnitRowOf n) rows
+  pub control-as : (ss : List Row) → length ss ≡ length rows → ((i : ℕ) → range_over n block (row i ss).kind ≡ range_over n block (row i rows).kind) → ((i : ℕ) → unit_row_of n (row i ss).kind ≡ unit_row_of n (row i rows).kind)
       → controlling_row ss n block ≡ controlling_row rows n block
-  control-as ss p q = ap (λ o. unwrap_or o (row_under ss n)) p ∙ ap (λ o. unwrap_or (lowest_row (RangeOver n block) rows) (unwrap_or o 0)) q
+  control-as ss long p q =
+      ap (λ o. unwrap_or o (row_under ss n)) (first-same (λ y. suits (RangeOver n block) y) free_row ss rows long p)
+      ∙ ap (λ o. unwrap_or (lowest_row (RangeOver n block) rows) (unwrap_or o 0)) (first-same (λ y. suits (UnitRowOf n) y) free_row ss rows long q)

@@ -1,13 +1,18 @@
 -- Every call leaves a drive that a sheet can describe, and the vault refuses none of its requests.
-use Rattle.std.proofs.Common.{◌≡◌, ℕ, suc, ◌+◌, ◌^◌, ◌<◌, Bool, true, false, cond, not, ◌&&◌, ◌||◌, eqb, ltb, leb, ◌≢◌, List, [], ◌∷◌, ◌++◌, map, length, get_or, set, Some, None, Option, unwrap_or, sym, refl, ap, ◌∙◌, inl, inr, arith}
+use Rattle.std.proofs.Common.{◌≡◌, ℕ, Bool, List, ◌∷◌, Some, None, Option, suc, ◌+◌, ◌^◌, ◌<◌, true, false, cond, not, ◌&&◌, ◌||◌, eqb, ltb, leb, ◌≢◌, [], ◌++◌, map, length, get_or, set, unwrap_or, sym, refl, ap, ◌∙◌, inl, inr, arith}
+use Rattle.std.specs.Option.{option_or}
 use Rattle.std.proofs.lemmas.List.{get_or-map, length-set, length-map, set-get_or, get_or_past}
 use Rattle.std.proofs.lemmas.Bool.Decides.{nat_tests}
-use Rattle.std.proofs.lemmas.Bool.{cases_Bool, cases_lt, both_ways, and_parts, and_from, ltb-true, ltb-false, leb-false, lt-ltb, le-leb, eqb-true, eqb-false, not-false}
+use Rattle.std.proofs.lemmas.Bool.{cases_Bool, cases_lt, both_ways, and_parts, and_from, ltb-true, ltb-false, leb-false, lt-ltb, le-leb, eqb-true, eqb-false, not-false, cond_both}
+use Rattle.std.proofs.lemmas.List.Folds.{list_any_at}
 use Rattle.std.specs.List.{list_any}
 use Rattle.packed.specs.Rising.{lookup}
 use Rattle.packed.proofs.Order.{has-insert, length-insert, length-remove, rises-insert, rises-remove}
 use Rattle.vault.specs.Kinds.{can_be_capacity}
 use Rattle.vault.specs.Serials.{adds, collect}
+use Rattle.vault.proofs.Checks.{Passed, all-passed}
+use Rattle.rules.specs.declared.cause.Cause.{Cause}
+use Rattle.rules.specs.declared.cause.Cause.TheVariants.{Closed}
 use Rattle.rules.specs.declared.row.Flags.{Flags}
 use Rattle.rules.specs.declared.row.Kind.{Kind}
 use Rattle.rules.specs.declared.row.Kind.TheVariants.{Free, Global, UnitRow, RangeRow}
@@ -17,25 +22,41 @@ use Rattle.rules.specs.declared.row.Standing.{Standing}
 use Rattle.rules.specs.declared.row.Standing.TheVariants.{Shared, SingleUser}
 use Rattle.rules.specs.declared.unit.Holder.TheVariants.{TheUnit}
 use Rattle.rules.specs.declared.unit.LogicalUnit.{LogicalUnit}
+use Rattle.rules.specs.Drive.{Drive, refused_by, with_rows, with_policy, row_of, kind_of, unused_keys}
+use Rattle.rules.specs.Sessions.{opening_refusal, in_session}
 use Rattle.rules.specs.Commands.{create_checks, create_refusal, new_unit, created, delete_checks, delete_refusal, deleted, formatted, was_reset}
-use Rattle.rules.specs.Drive.{Drive, with_rows, with_policy, row_of, kind_of, unused_keys}
 use Rattle.rules.specs.FreshKeys.{holders_of, unit_and_ranges}
 use Rattle.rules.specs.Methods.{row_to_take, other_rows, unit_row_assigned, range_row_assigned, freed, given_up, range_set, locks_set, key_generated, reactivated_row, reactivated}
 use Rattle.rules.specs.Requests.{Put, Drop, NoneRefused, swaps, requests_of_deassign}
 use Rattle.rules.specs.Rows.{blank, relocked, free_row, row, is_free, is_a_unit_row, unit_or, key_or, with_range, is_single_user, with_flags, with_kind, anew, covers, unit_row_of, range_row_of, range_over, is_there}
 use Rattle.rules.specs.Sound.{unit_fits, is_global, row_fits, SoundRows, serial_of, row_key, serials, policy_fits, Sound}
 use Rattle.rules.specs.Units.{valid, no_unit, exists, unit, with_unit, without_unit}
-use Rattle.rules.proofs.Accepted.{passed}
-use Rattle.rules.proofs.Keys.{keys-as, put-capacity, drop-capacity, put-done, put-keys, drop-done, drop-keys, collect-unit, collect-without, filled, cleared}
+use Rattle.rules.proofs.Keys.{keys-as, put-capacity, drop-capacity, put-kept, drop-kept, collect-unit, collect-without, filled, cleared}
 use Rattle.rules.proofs.Lookups.{lookup-insert, lookup-remove, has-remove-other, all_insert, all_remove}
-use Rattle.rules.proofs.Places.{unit-key}
+use Rattle.rules.proofs.Places.{unit-key, words_long, row_word, row_written}
 use Rattle.rules.proofs.Renewals.{fresh-sound, renewed-sound, valid-of-row, valid-of-unit}
-use Rattle.rules.proofs.RowsKept.{any_same, any_at, within, in_table, none-at, kind-free, over-apart, fits-exists, fits_under, fits-key, rows-unit-row, rows-range, rows-free, rows_alike, rows-units}
+use Rattle.rules.proofs.RowsKept.{any_same, within, in_table, none-at, kind-free, over-apart, fits-exists, fits_under, fits-key, rows-unit-row, rows-range, rows-free, rows_alike, rows-units}
 use Rattle.rules.proofs.Searches.{missed, at_there, not_there, set-alike, unwritten, each_row}
-use Rattle.rules.proofs.Numbered.{each_row_by, length-each, row-each, each-alike}
-use Rattle.rules.proofs.Selections.{map-alike, some-bit}
-use Rattle.rules.proofs.Words.{words_long, row_word, row_written}
+use Rattle.rules.proofs.Numbered.{each_row_by, length-each, row-each, each-alike, map-alike, some-bit}
 
+-- ---- what an accepted call has passed
+-- where neither refuses, the second does not
+pub neither : (o p : Option Cause) → option_or o p ≡ None → p ≡ None
+neither None p e = e
+neither (Some c) p e = absurd cc
+
+-- the session opened, and the call is not refused
+pub opened : (caller : ℕ) (refusal : Option Cause) → in_session caller refusal ≡ None → refusal ≡ None
+opened caller refusal e = neither (opening_refusal caller) refusal e
+
+module _ (d : Drive) (checks : List (Bool × Cause)) where
+  pub passed : refused_by d checks ≡ None → Passed checks
+  passed e = (all-passed ((d.closed, Closed) ∷ checks) e).1
+
+  pub passed-in : (caller : ℕ) → in_session caller (refused_by d checks) ≡ None → Passed checks
+  passed-in caller e = passed (opened caller (refused_by d checks) e)
+
+-- ---- what a call leaves
 -- rows that keep their kinds keep their keys
 words-alike : (units : List LogicalUnit) (rows ss : List Row) → length ss ≡ length rows → ((i : ℕ) → (row i ss).kind ≡ (row i rows).kind) → serials units ss ≡ serials units rows
 words-alike units rows ss n e = ap (λ ks. map serial_of units ++ ks) (go ss rows n e)
@@ -50,21 +71,25 @@ module _ (d : Drive) (h : Sound d) where
   abbrev words : List ℕ
   words = serials d.units d.rows
 
-  -- ---- rows that keep their kinds
-  pub alike-sound : (ss : List Row) (policy : ℕ) → length ss ≡ length d.rows → ((i : ℕ) → (row i ss).kind ≡ (row i d.rows).kind)
-      → ((r : ℕ) → r < 17 → is_free (row r d.rows).kind ≡ true → (row r ss).flags ≡ blank) → policy_fits policy ss ≡ true → Sound (with_policy policy (with_rows ss d))
-  alike-sound ss policy n e b p = record {
+  -- ---- other rows under the same keys
+  rows-sound : (ss : List Row) (policy : ℕ) → SoundRows d.units ss → serials d.units ss ≡ words → policy_fits policy ss ≡ true → Sound (with_policy policy (with_rows ss d))
+  rows-sound ss policy s e p = record {
     usable = h.usable;
     capacity = h.capacity;
     next = h.next;
     policy = p;
     units = h.units;
-    rows = rows_alike d.units d.rows h.rows ss n e b;
-    keys = keys-as d.next d.vault _ _ (words-alike d.units d.rows ss n e) h.keys;
+    rows = s;
+    keys = keys-as d.next d.vault _ _ e h.keys;
   }
 
+  -- rows that keep their kinds
+  alike-sound : (ss : List Row) (policy : ℕ) → length ss ≡ length d.rows → ((i : ℕ) → (row i ss).kind ≡ (row i d.rows).kind)
+      → ((r : ℕ) → r < 17 → is_free (row r d.rows).kind ≡ true → (row r ss).flags ≡ blank) → policy_fits policy ss ≡ true → Sound (with_policy policy (with_rows ss d))
+  alike-sound ss policy n e b = rows-sound ss policy (rows_alike d.units d.rows h.rows ss n e b) (words-alike d.units d.rows ss n e)
+
   -- the policy fits where the standings stay
-  pub policy-alike : (ss : List Row) → length ss ≡ length d.rows → ((i : ℕ) → (row i ss).standing ≡ (row i d.rows).standing) → policy_fits d.policy ss ≡ true
+  policy-alike : (ss : List Row) → length ss ≡ length d.rows → ((i : ℕ) → (row i ss).standing ≡ (row i d.rows).standing) → policy_fits d.policy ss ≡ true
   policy-alike ss n e = ap (λ b. eqb d.policy 1 || (eqb d.policy 0 && b)) (any_same (λ y. is_single_user y.standing) ss d.rows n (λ i. ap is_single_user (e i))) ∙ h.policy
 
   policy-set : (r : ℕ) (x : Row) → x.standing ≡ (row r d.rows).standing → policy_fits d.policy (set d.rows r x) ≡ true
@@ -91,7 +116,8 @@ module _ (d : Drive) (h : Sound d) where
       let u : LogicalUnit = new_unit d n blocks in
       let z : d.next ≡ 0 → ⊥ = (λ y. omega (arith, h.next.0)) in
       let more = collect-unit u d.units (map row_key d.rows) z in
-      let spare : length d.vault.held < d.vault.capacity = omega (arith, eqb-false (unused_keys d) 0 room) in (
+      let spare : length d.vault.held < d.vault.capacity = omega (arith, eqb-false (unused_keys d) 0 room) in
+      let put = put-kept d.next d.vault words h.keys h.next.0 (serials (with_unit u d.units) d.rows) more spare in (
         record {
           usable = h.usable;
           capacity = ap can_be_capacity (put-capacity d.vault d.next) ∙ h.capacity;
@@ -103,9 +129,9 @@ module _ (d : Drive) (h : Sound d) where
             each = all_insert (λ (v : LogicalUnit). v.number) (λ v. unit_fits d.numbering v ≡ true) u d.units (and_from (valid d.numbering n) _ ok (and_from _ _ size (lt-ltb 0 d.next h.next.0))) h.units.each;
           };
           rows = rows-units d.units d.rows h.rows (with_unit u d.units) (λ k ex _. kept k ex new);
-          keys = put-keys d.next d.vault words h.keys h.next.0 (serials (with_unit u d.units) d.rows) more spare;
+          keys = put.1;
         },
-        ((put-done d.next d.vault words h.keys h.next.0 (serials (with_unit u d.units) d.rows) more spare, tt), refl),
+        ((put.0, tt), refl),
       )
     where
       kept : (k : ℕ) → exists k d.units ≡ true → exists n d.units ≡ false → (exists k (with_unit (new_unit d n blocks) d.units) ≡ true) × ((unit k (with_unit (new_unit d n blocks) d.units)).blocks ≡ (unit k d.units).blocks)
@@ -122,7 +148,8 @@ module _ (d : Drive) (h : Sound d) where
       let free : is_there (UnitRowOf n) d.rows ≡ false = p.1.0 in
       let s = (unit n d.units).serial in
       let z : s ≡ 0 → ⊥ = (λ y. omega (arith, unit-key d n h ex)) in
-      let fewer = collect-without n d.units (map row_key d.rows) ex z in (
+      let fewer = collect-without n d.units (map row_key d.rows) ex z in
+      let drop = drop-kept d.next d.vault words h.keys (serials (without_unit n d.units) d.rows) s fewer in (
         record {
           usable = h.usable;
           capacity = ap can_be_capacity (drop-capacity d.vault s) ∙ h.capacity;
@@ -136,9 +163,9 @@ module _ (d : Drive) (h : Sound d) where
           rows = rows-units d.units d.rows h.rows (without_unit n d.units) (λ k x y.
               let ne : k ≢ n = (λ q. both_ways (is_there (UnitRowOf n) d.rows) free (ap (λ j. is_there (UnitRowOf j) d.rows) (sym q) ∙ y)) in
               (has-remove-other (λ (v : LogicalUnit). v.number) k n d.units ne ∙ x, ap (λ (o : Option LogicalUnit). (unwrap_or o no_unit).blocks) (lookup-remove (λ (v : LogicalUnit). v.number) k n d.units ne)));
-          keys = drop-keys d.next d.vault words h.keys (serials (without_unit n d.units) d.rows) s fewer;
+          keys = drop.1;
         },
-        ((drop-done d.next d.vault words h.keys (serials (without_unit n d.units) d.rows) s fewer, tt), refl),
+        ((drop.0, tt), refl),
       )
 
   -- ---- one row is written
@@ -154,15 +181,7 @@ module _ (d : Drive) (h : Sound d) where
   word-within r l = omega (arith, words_long d.units d.rows, h.rows.seventeen)
 
   row-sound : (r : ℕ) (x : Row) → r < 17 → x.standing ≡ (row_of d r).standing → row_key x ≡ row_key (row_of d r) → SoundRows d.units (set d.rows r x) → Sound (with_rows (set d.rows r x) d)
-  row-sound r x l st k s = record {
-    usable = h.usable;
-    capacity = h.capacity;
-    next = h.next;
-    policy = policy-set r x st;
-    units = h.units;
-    rows = s;
-    keys = keys-as d.next d.vault _ _ (same-words r x l k) h.keys;
-  }
+  row-sound r x l st k s = rows-sound (set d.rows r x) d.policy s (same-words r x l k) (policy-set r x st)
 
   -- ---- Assign
   -- the row that is taken is free
@@ -198,7 +217,8 @@ module _ (d : Drive) (h : Sound d) where
       let g : get_or words (length d.units + r) 0 ≡ 0 = row_word d.units d.rows r lr ∙ ap (λ k. key_or k 0) f.1 in
       let ws = serials d.units (set d.rows r x) in
       let more = ap collect (row_written d.units d.rows r lr x) ∙ filled words (length d.units + r) (word-within r f.0) d.next g z in
-      let spare : length d.vault.held < d.vault.capacity = omega (arith, eqb-false (unused_keys d) 0 room) in (
+      let spare : length d.vault.held < d.vault.capacity = omega (arith, eqb-false (unused_keys d) 0 room) in
+      let put = put-kept d.next d.vault words h.keys h.next.0 ws more spare in (
         record {
           usable = h.usable;
           capacity = ap can_be_capacity (put-capacity d.vault d.next) ∙ h.capacity;
@@ -207,9 +227,9 @@ module _ (d : Drive) (h : Sound d) where
           units = h.units;
           rows = rows-range d.units d.rows h.rows r n start len d.next x f.0 (ap is_global f.1) (λ m. ap (unit_row_of m) f.1) refl ex under
               (le-leb _ _ (ltb-false _ _ past)) (lt-ltb 0 d.next h.next.0) (λ block i c _. apart_from n start len d.rows h.rows.seventeen sharing block i c);
-          keys = put-keys d.next d.vault words h.keys h.next.0 ws more spare;
+          keys = put.1;
         },
-        ((put-done d.next d.vault words h.keys h.next.0 ws more spare, tt), refl),
+        ((put.0, tt), refl),
       )
 
   -- ---- SetRange
@@ -235,7 +255,8 @@ module _ (d : Drive) (h : Sound d) where
       let z : k ≡ 0 → ⊥ = (λ y. omega (arith, ltb-true 0 k (fits-key d.units d.rows n s l k f))) in
       let g : get_or words (length d.units + r) 0 ≡ k = row_word d.units d.rows r lr ∙ ap (λ q. key_or q 0) e in
       let ws = serials d.units (set d.rows r x) in
-      let fewer = cleared words (length d.units + r) (word-within r lt) k g z ∙ ap (λ w. adds k (collect w)) (sym (row_written d.units d.rows r lr x)) in (
+      let fewer = cleared words (length d.units + r) (word-within r lt) k g z ∙ ap (λ w. adds k (collect w)) (sym (row_written d.units d.rows r lr x)) in
+      let drop = drop-kept d.next d.vault words h.keys ws k fewer in (
         record {
           usable = h.usable;
           capacity = ap can_be_capacity (drop-capacity d.vault k) ∙ h.capacity;
@@ -243,9 +264,9 @@ module _ (d : Drive) (h : Sound d) where
           policy = policy-set r x refl;
           units = h.units;
           rows = rows-free d.units d.rows h.rows r x lt (ap is_global e) refl refl (λ i m a b c _ _. ap (unit_row_of m) e);
-          keys = drop-keys d.next d.vault words h.keys ws k fewer;
+          keys = drop.1;
         },
-        ((drop-done d.next d.vault words h.keys ws k fewer, tt), refl),
+        ((drop.0, tt), refl),
       )
 
   freed-unit : (r n : ℕ) → kind_of d r ≡ UnitRow n → is_there (RangeRowOf n) d.rows ≡ false → Sound (freed d r)
@@ -286,15 +307,11 @@ module _ (d : Drive) (h : Sound d) where
       let rows = each_row_by make d.rows in
       alike-sound rows (cond (eqb selection 0) 1 policy) (length-each make d.rows) (each-alike make d.rows (λ (r : Row). r.kind) (λ n r. refl))
       (λ r l f. ap (λ (x : Row). x.flags) (row-each make d.rows r (within d.units d.rows h.rows r l)))
-      (go (eqb selection 0) refl)
+      (cond_both (eqb selection 0) 1 policy (λ p. policy_fits p rows ≡ true) (λ _. refl) (λ e. let s = single (eqb-false selection 0 e) in let p = ltb-false 1 policy low in grind (arith, nat_tests)))
     where
       single : selection ≢ 0 → list_any (λ r. is_single_user r.standing) (each_row_by (reactivated_row selection) d.rows) ≡ true
       single z =
           let p = some-bit 17 selection (leb-false _ _ small) z in
           let l : p.0 < length d.rows = omega (arith, p.1, h.rows.seventeen) in
-          any_at (λ r. is_single_user r.standing) (each_row_by (reactivated_row selection) d.rows) p.0 (omega (arith, length-each (reactivated_row selection) d.rows))
+          list_any_at (λ r. is_single_user r.standing) (each_row_by (reactivated_row selection) d.rows) p.0 free_row (omega (arith, length-each (reactivated_row selection) d.rows))
           (ap (λ (x : Row). is_single_user x.standing) (row-each (reactivated_row selection) d.rows p.0 l) ∙ ap (λ b. is_single_user (cond b SingleUser Shared)) p.2)
-
-      go : (b : Bool) → eqb selection 0 ≡ b → policy_fits (cond b 1 policy) (each_row_by (reactivated_row selection) d.rows) ≡ true
-      go true e = refl
-      go false e = let s = single (eqb-false selection 0 e) in let p = ltb-false 1 policy low in grind (arith, nat_tests)

@@ -1,26 +1,29 @@
 -- One call, of any kind: what it keeps.
-use Rattle.std.proofs.Common.{◌≡◌, ℕ, ◌^◌, Bool, true, false, cond, ltb, leb, List, [], ◌∷◌, Some, None, Option, sym, refl, ap, ◌∙◌, subst, inl, inr}
-use Rattle.std.proofs.lemmas.Bool.{cases_Bool, not-false, or_parts}
+use Rattle.std.proofs.Common.{◌≡◌, ℕ, ◌+◌, ◌^◌, Bool, true, false, cond, ltb, leb, List, [], ◌∷◌, None, sym, refl, ap, ◌∙◌, subst, inl, inr}
+use Rattle.std.proofs.lemmas.Bool.{cases_Bool, cond_both, not-false, or_parts}
 use Rattle.vault.specs.Checks.{unless}
+use Rattle.vault.specs.Meaning.{Meaning, put_after, swap_after, drop_after}
+use Rattle.vault.proofs.Checks.{Passed, by_option}
+use Rattle.rules.specs.declared.row.Kind.{Kind}
+use Rattle.rules.specs.declared.row.Kind.TheVariants.{Free, Global, UnitRow, RangeRow}
+use Rattle.rules.specs.declared.unit.Holder.{Holder}
+use Rattle.rules.specs.declared.unit.Holder.TheVariants.{TheUnit, TheRow}
 use Rattle.rules.specs.declared.call.Call.{Call}
 use Rattle.rules.specs.declared.call.Call.TheVariants.{Assign, Deassign, SetRange, SetLocks, GenKey, Erase, Reactivate, Create, Delete, Format, Reset}
-use Rattle.rules.specs.declared.cause.Cause.{Cause}
 use Rattle.rules.specs.declared.row.Sought.TheVariants.{UnitRowOf}
 use Rattle.rules.specs.declared.row.Standing.{Standing}
 use Rattle.rules.specs.Calls.{refusal, left, after}
 use Rattle.rules.specs.Commands.{format_checks}
 use Rattle.rules.specs.Drive.{Drive, kind_of, unit_of}
-use Rattle.rules.specs.FreshKeys.{holders_of}
-use Rattle.rules.specs.Methods.{ends_past, shares_block, unit_row_checks, range_row_checks, assign_checks, assign_refusal, other_rows, unit_row_assigned, range_row_assigned, assigned, deassign_checks, set_range_checks, set_range_refusal, range_set, set_locks_checks, gen_key_checks, key_generated, erase_checks, reactivate_checks}
+use Rattle.rules.specs.FreshKeys.{key_of, fresh_key, fresh_keys, holders_of, renewed_by, unit_and_ranges}
+use Rattle.rules.specs.Methods.{ends_past, shares_block, unit_row_checks, range_row_checks, assign_checks, assign_refusal, other_rows, unit_row_assigned, range_row_assigned, assigned, deassign_checks, set_range_checks, set_range_refusal, freed, given_up, range_set, set_locks_checks, gen_key_checks, key_generated, erase_checks, reactivate_checks}
 use Rattle.rules.specs.Requests.{Request, Put, NoneRefused, requests}
-use Rattle.rules.specs.Rows.{blank, unit_or, is_there}
+use Rattle.rules.specs.Rows.{blank, is_free, unit_or, is_there}
 use Rattle.rules.specs.Sound.{Sound}
-use Rattle.rules.specs.Units.{exists}
-use Rattle.vault.proofs.Checks.{Passed}
-use Rattle.rules.proofs.Accepted.{opened, passed, passed-in}
-use Rattle.rules.proofs.Alike.{alike-renewed, alike-free}
+use Rattle.rules.specs.Units.{exists, unit}
+use Rattle.rules.proofs.Sounds.{opened, passed, passed-in, create-sound, delete-sound, locks-sound, unit-row-sound, range-row-sound, range-set-sound, given-up-sound, generated-sound, format-sound, reset-sound, reactivate-sound}
+use Rattle.rules.proofs.Renewals.{alike-renewed, alike-kind}
 use Rattle.rules.proofs.Places.{range-parts}
-use Rattle.rules.proofs.Sounds.{create-sound, delete-sound, locks-sound, unit-row-sound, range-row-sound, range-set-sound, given-up-sound, generated-sound, format-sound, reset-sound, reactivate-sound}
 
 -- what is left is in order, and the vault refused nothing on the way
 abbrev Kept : Drive → List Request → Drive → Type 0
@@ -73,7 +76,7 @@ module _ (d : Drive) (h : Sound d) where
       let p = passed-in d (erase_checks d caller r) caller e in
       let g = generated-sound d h r p.1.1.1.1.0 in
       let asked : NoneRefused d.vault (requests d (Erase caller r)) (left d (Erase caller r)).vault = g.1 in
-      (locks-sound (key_generated d r) g.0 r blank (alike-free d (key_generated d r) (alike-renewed d (holders_of d r (kind_of d r))) r ∙ p.1.0), asked)
+      (locks-sound (key_generated d r) g.0 r blank (alike-kind d (key_generated d r) (alike-renewed d (holders_of d r (kind_of d r))) is_free (λ _ _ _ _ _. refl) r ∙ p.1.0), asked)
   left-kept (Reactivate caller selection policy) e =
       let p = passed-in d (reactivate_checks d caller selection policy) caller e in
       let q = or_parts (leb (2 ^ 17) selection) (ltb 1 policy) p.1.0 in
@@ -86,8 +89,44 @@ module _ (d : Drive) (h : Sound d) where
   left-kept (Reset caller) e = (reset-sound d h, (tt, refl))
 
 pub after-sound : (d : Drive) (c : Call) → Sound d → Sound (after d c)
-after-sound d c h = go (refusal d c) refl
-  where
-    go : (o : Option Cause) → refusal d c ≡ o → Sound (unless o d (left d c))
-    go (Some cause) e = h
-    go None e = (left-kept d h c e).0
+after-sound d c h = by_option (refusal d c) (λ o. Sound (unless o d (left d c))) (λ e. (left-kept d h c e).0) (λ _ _. h)
+
+-- what a request for the next serial keeps, and one that drops a serial, each call keeps
+module _ (P : ℕ → Meaning → Type 0)
+    (put : (n : ℕ) (m : Meaning) → P n m → P (n + 1) (put_after m n))
+    (swap : (n old : ℕ) (m : Meaning) → P n m → P (n + 1) (swap_after m old n))
+    (drop : (n s : ℕ) (m : Meaning) → P n m → P n (drop_after m s)) where
+  abbrev Of : Drive → Type 0
+  Of d = P d.next d.vault
+
+  fresh-of : (d : Drive) (holder : Holder) → Of d → Of (fresh_key d holder)
+  fresh-of d (TheUnit n) p = swap d.next (key_of d (TheUnit n)) d.vault p
+  fresh-of d (TheRow r) p = swap d.next (key_of d (TheRow r)) d.vault p
+
+  renewed-of : (d : Drive) (holders : List Holder) → Of d → Of (fresh_keys d holders)
+  unfolding fresh_keys
+  renewed-of d [] p = p
+  renewed-of d (holder ∷ holders) p = renewed-of (fresh_key d holder) holders (fresh-of d holder p)
+
+  left-of : (d : Drive) (c : Call) → Of d → Of (left d c)
+  left-of d (Assign caller n start len standing) p = cond_both (is_there (UnitRowOf n) d.rows) (range_row_assigned d n start len standing) (unit_row_assigned d n standing) Of (λ _. put d.next d.vault p) (λ _. p)
+  left-of d (Deassign caller r keep) p = go keep (kind_of d r)
+    where
+      go : (keep : Bool) (kind : Kind) → Of (given_up d r keep kind)
+      go keep Free = p
+      go keep Global = p
+      go true (UnitRow u) = p
+      go false (UnitRow u) = fresh-of (freed d r) (TheUnit u) p
+      go keep (RangeRow u s l k) = drop d.next k d.vault p
+  left-of d (SetRange caller r start len) p = p
+  left-of d (SetLocks caller r flags) p = p
+  left-of d (GenKey caller r) p = renewed-of d (renewed_by d r) p
+  left-of d (Erase caller r) p = renewed-of d (renewed_by d r) p
+  left-of d (Reactivate caller selection policy) p = p
+  left-of d (Create n blocks) p = put d.next d.vault p
+  left-of d (Delete n) p = drop d.next (unit n d.units).serial d.vault p
+  left-of d (Format n) p = renewed-of d (unit_and_ranges d n) p
+  left-of d (Reset caller) p = p
+
+  pub after-of : (d : Drive) (c : Call) → Of d → Of (after d c)
+  after-of d c p = by_option (refusal d c) (λ o. Of (unless o d (left d c))) (λ _. left-of d c p) (λ _ _. p)

@@ -8,6 +8,9 @@ use Rattle.rules.specs.declared.ask.Question.{Question}
 use Rattle.rules.specs.declared.ask.Question.TheVariants.{Unused, Controls, Access, ReadRow}
 use Rattle.rules.specs.declared.ask.Told.{Told}
 use Rattle.rules.specs.declared.ask.Told.TheVariants as tells
+use Rattle.rules.specs.declared.call.Call.TheVariants.{Assign, Deassign, SetRange, SetLocks, GenKey, Erase, Reactivate, Create, Delete, Format, Reset}
+use Rattle.rules.specs.declared.cause.Asked.{Asked}
+use Rattle.rules.specs.declared.cause.Asked.TheVariants.{Method, Command}
 use Rattle.rules.specs.declared.cause.Cause.{Cause}
 use Rattle.rules.specs.Calls as calls
 use Rattle.rules.specs.Drive.{Drive}
@@ -37,3 +40,18 @@ reply_to d (asks.Question question) = reply d question
 abbrev pub left_by : Drive → Ask → Drive
 left_by d (asks.Call call) = calls.after d call
 left_by d (asks.Question question) = d
+
+-- how it comes in: the methods through a session, and all else over the host interface
+abbrev pub way : Ask → Asked
+way (asks.Call (Assign caller n start length standing)) = Method
+way (asks.Call (Deassign caller r keep)) = Method
+way (asks.Call (SetRange caller r start length)) = Method
+way (asks.Call (SetLocks caller r flags)) = Method
+way (asks.Call (GenKey caller r)) = Method
+way (asks.Call (Erase caller r)) = Method
+way (asks.Call (Reactivate caller selection policy)) = Method
+way (asks.Call (Create n blocks)) = Command
+way (asks.Call (Delete n)) = Command
+way (asks.Call (Format n)) = Command
+way (asks.Call (Reset caller)) = Command
+way (asks.Question question) = Command

@@ -11,7 +11,7 @@ use Rattle.rules.specs.declared.unit.LogicalUnit.{LogicalUnit}
 use Rattle.rules.specs.Rows.{row, locked, unit_or, is_single_user}
 
 pub record Drive : Type 0 where
-  -- laid out over a vault, or from a sheet, that could not serve
+  -- laid out where its check refuses
   pub closed : Bool
   pub numbering : Bounds
   pub units : List LogicalUnit

@@ -88,7 +88,7 @@ pub record OneKeyEach (d : Drive) : Type 0 where
 abbrev pub AlwaysOneKeyEach : Type 0
 AlwaysOneKeyEach = AtEveryPoint OneKeyEach
 
--- ---- no request that an accepted call makes of the vault is refused, and nothing else changes the vault
+-- ---- no request that is listed for an accepted call is refused by the vault, and these leave just what the vault then means
 abbrev pub NoRequestRefusedIn : Drive → List Call → List Answer → Type 0
 NoRequestRefusedIn d calls given = (k : ℕ) → k < length calls
     → is_accepted (answer_at given k) ≡ true

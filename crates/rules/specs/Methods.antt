@@ -135,7 +135,7 @@ abbrev pub deassign_answer : Drive → ℕ → ℕ → Bool → Done
 deassign_answer d caller r keep = answer (deassign_refusal d caller r keep) tt
 
 -- ---- SetRange: a range row over other blocks
--- the rows with this one's own range out of account
+-- the rows with row r as if it were free
 abbrev pub other_rows : List Row → ℕ → List Row
 other_rows rows r = with_row r (anew Free (row r rows)) rows
 

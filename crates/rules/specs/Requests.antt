@@ -1,4 +1,4 @@
--- What a call asks of the vault.
+-- What an accepted call is to ask of the vault.
 use Rattle.std.specs.Prelude.{◌≡◌, ℕ, Bool, cond, List, [], ◌∷◌, None, Option}
 use Rattle.std.specs.List.{AllByRecursion, fold, scan}
 use Rattle.vault.specs.declared.refusal.VaultRefusal.{VaultRefusal}

@@ -1,9 +1,16 @@
--- Units, which stand in rising order of their numbers.
+-- The two numberings, and units, which stand in rising order of their numbers.
 use Rattle.std.specs.Prelude.{ℕ, Bool, ◌&&◌, List, nat_le}
 use Rattle.std.specs.Option.{unwrap_or}
 use Rattle.packed.specs.Rising as rising
 use Rattle.rules.specs.declared.numbering.Bounds.{Bounds}
 use Rattle.rules.specs.declared.unit.LogicalUnit.{LogicalUnit}
+
+-- the two numberings: the mark of a row without a unit, the first and the last unit number, and the code on the sheet
+abbrev pub nvme : Bounds
+nvme = record { mark = 0; first = 1; last = 0xFFFF_FFFE; code = 1 }
+
+abbrev pub scsi : Bounds
+scsi = record { mark = 0xFFFF_FFFF; first = 0; last = 0xFFFF_FFFE; code = 2 }
 
 -- the numbers that a numbering gives to units
 abbrev pub valid : Bounds → ℕ → Bool
@@ -13,7 +20,7 @@ valid bounds n = nat_le bounds.first n && nat_le n bounds.last
 abbrev pub no_unit : LogicalUnit
 no_unit = record { number = 0; blocks = 0; serial = 0 }
 
--- there is a unit with this number; every unit's number is valid, so a number that is not valid has none
+-- there is a unit with this number; Create and Load take valid numbers alone, so a number that is not valid has none
 abbrev pub exists : ℕ → List LogicalUnit → Bool
 exists n units = rising.has (λ u. u.number) n units
 

@@ -1,12 +1,15 @@
 //! What a drive is asked, and what comes back.
+ghost use Rattle.std.specs.Prelude.{◌≡◌};
+ghost use Rattle.rules.specs.Asks.{way};
+
 use crate::access::Access;
 use crate::call::{Accepted, Call};
-use crate::cause::Cause;
+use crate::cause::{Asked, Cause};
 use crate::row::RowFields;
 use crate::unit::Control;
 
 /// A question, which changes nothing.
-#[derive(Clone, Copy, PartialEq, Eq)]
+#[derive(Clone, Copy)]
 pub enum Question {
     /// How many keys are not in use.
     Unused,
@@ -30,10 +33,25 @@ pub enum Question {
 }
 
 /// What a drive is asked.
-#[derive(Clone, Copy, PartialEq, Eq)]
+#[derive(Clone, Copy)]
 pub enum Ask {
     Call(Call),
     Question(Question),
+}
+
+impl Ask {
+    /// How it comes in, by which a refusal has its status.
+    pub fn way(self) -> Asked
+        ensures { result ≡ way self }
+    {
+        match self {
+            Ask::Call(Call::Create { .. } | Call::Delete { .. } | Call::Format { .. }) => {
+                Asked::Command
+            }
+            Ask::Call(Call::Reset { .. }) | Ask::Question(_) => Asked::Command,
+            Ask::Call(_) => Asked::Method,
+        }
+    }
 }
 
 /// What an accepted call or question tells.

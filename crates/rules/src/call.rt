@@ -4,10 +4,10 @@ use crate::row::{Flags, Standing};
 /// The caller that is no user.
 pub const ADMINS: u32 = 0;
 
-/// A call that can change a drive, with all that it takes. A method comes in a session of its caller: 0 is Admins, n is User n.
+/// A call that can change a drive, with all that it takes. A method, or Reset, comes in a session of its caller: 0 is Admins, n is User n.
 // Callers, rows, policies and selections are plain numbers, since a host may send any: which of them name something is for the
 // checks to say.
-#[derive(Clone, Copy, PartialEq, Eq)]
+#[derive(Clone, Copy)]
 pub enum Call {
     Assign {
         caller: u32,

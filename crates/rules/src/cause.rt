@@ -48,7 +48,7 @@ pub enum Cause {
     SheetRelation,
     /// The vault's keys are not the sheet's.
     OtherKeys,
-    /// The table is closed, or the vault can't serve.
+    /// The table is closed, or a table over this vault would be.
     Closed,
 }
 

@@ -17,7 +17,7 @@ pub fn one_key_each()
     ensures { AlwaysOneKeyEach }
 {}
 
-/// No request that a call makes of the vault is ever refused.
+/// The vault refuses no request that is listed for an accepted call, and these leave just what it then means.
 pub fn no_request_refused()
     ensures { NoRequestRefused }
 {}

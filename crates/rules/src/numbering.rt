@@ -1,6 +1,6 @@
 ghost use Rattle.std.specs.Prelude.{◌≡◌, false};
 ghost use Rattle.std.proofs.Common.{refl};
-ghost use Rattle.rules.specs.Units.{valid};
+ghost use Rattle.rules.specs.Units.{nvme, scsi, valid};
 ghost use Rattle.rules.specs.declared.numbering.Bounds.{Bounds};
 
 /// What a numbering fixes: the mark of a row without a unit, the first and the last unit number, and its code on the sheet.
@@ -42,7 +42,7 @@ impl Numbering for Nvme {
         code: 1,
     };
 
-    ghost BOUNDS = { record { mark = 0; first = 1; last = 0xFFFF_FFFE; code = 1 } };
+    ghost BOUNDS = { nvme };
 
     ghost apart = { refl };
 }
@@ -58,7 +58,7 @@ impl Numbering for Scsi {
         code: 2,
     };
 
-    ghost BOUNDS = { record { mark = 0xFFFF_FFFF; first = 0; last = 0xFFFF_FFFE; code = 2 } };
+    ghost BOUNDS = { scsi };
 
     ghost apart = { refl };
 }

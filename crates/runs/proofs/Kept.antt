@@ -1,8 +1,8 @@
 -- What holds of a run, from the laws; and of one over a closed table.
-use Rattle.std.proofs.Common.{◌≡◌, ℕ, Bool, true, false, cond, ltb, List, [], ◌∷◌, map, length, Some, None, Ok, Err, Option, refl, sym, ap, ◌∙◌, arith}
+use Rattle.std.proofs.Common.{◌≡◌, ℕ, Bool, true, false, true≢false, cond, ltb, List, [], ◌∷◌, map, length, Some, None, Ok, Err, Option, refl, sym, ap, ◌∙◌, arith}
 use Rattle.std.specs.Option.{option_or}
 use Rattle.std.proofs.Math.Seq.{take-length}
-use Rattle.std.specs.Prelude.{MatchResult}
+use Rattle.std.specs.Prelude.{MatchResult, is_ok}
 use Rattle.vault.specs.Checks as checks
 use Rattle.vault.specs.Meaning.{Meaning}
 use Rattle.rules.specs.declared.call.Call.{Call}
@@ -79,6 +79,15 @@ module _ (first laid : Drive) (calls : List Call) (given : List Answer) (last : 
 
   refuses-every-call : first.closed ≡ true → RefusesEveryCall first calls given last
   refuses-every-call closed = rw (told, ends, is) (record { refused = tells-all first closed calls; unchanged = stays-all first closed calls })
+
+-- a closed table answers no call with success
+pub refuses : (d : Drive) → d.closed ≡ true → (call : Call) → is_ok (answer d call) ≡ false
+refuses d closed call = ap is_ok (tells d closed call)
+
+-- where the check refuses, the table is closed
+pub shut-out : (check : Done) (d : Drive) → BeginsOrIsClosed check d → is_ok check ≡ false → d.closed ≡ true
+shut-out (Ok done) d begins e = absurd (true≢false e)
+shut-out (Err cause) d closed e = closed
 
 pub by-the-rules : (bounds : Bounds) (vault : Meaning) (source : Source) (laid : Drive) (calls : List Call) (given : List Answer) (last : Drive)
     → laid ≡ laid_out bounds vault source → BeginsOrIsClosed (laying_check bounds vault source) (laid_out bounds vault source)

@@ -1,9 +1,11 @@
 -- The registers of a chip after a run.
-use Rattle.std.proofs.Common.{◌≡◌, ℕ, Bool, true, false, cond, List, Some, None, Option, length, refl, ap, ◌∙◌}
+use Rattle.std.proofs.Common.{◌≡◌, ℕ, Bool, true, false, cond, List, Some, None, Option, length, refl, ap, ◌∙◌, arith}
+use Rattle.std.proofs.lemmas.Bool.Decides.{nat_tests}
 use Rattle.vault.specs.Checks.{unless}
 use Rattle.vault.specs.Kinds.{nothing, fit, chip_meaning, in_use, chip_new}
 use Rattle.vault.specs.Meaning.{Meaning}
 use Rattle.vault.specs.Serials.{collect}
+use Rattle.vault.proofs.Checks.{by_option}
 use Rattle.rules.specs.declared.call.Call.{Call}
 use Rattle.rules.specs.declared.cause.Cause.{Cause}
 use Rattle.rules.specs.declared.numbering.Bounds.{Bounds}
@@ -17,18 +19,10 @@ use Rattle.runs.proofs.Capacity.{as-roomy}
 
 laid-over : (bounds : Bounds) (vault : Meaning) (source : Source) → (laid_out bounds vault source).vault ≡ vault
 laid-over bounds vault Blank = refl
-laid-over bounds vault (Sheet bytes) = go (load_refusal bounds vault bytes.now)
-  where
-    go : (o : Option Cause) → (unless o (shut bounds vault) (drive_on bounds vault bytes.now)).vault ≡ vault
-    go (Some cause) = refl
-    go None = refl
+laid-over bounds vault (Sheet bytes) = by_option (load_refusal bounds vault bytes.now) (λ o. (unless o (shut bounds vault) (drive_on bounds vault bytes.now)).vault ≡ vault) (λ _. refl) (λ _ _. refl)
 
 room-of : (words : List ℕ) → (chip_new words).capacity ≡ in_use words
-room-of words = go (fit words)
-  where
-    go : (b : Bool) → (cond b (let m : Meaning = record { capacity = length words; held = collect words } in m) nothing).capacity ≡ cond b (length words) 0
-    go true = refl
-    go false = refl
+room-of words = grind (arith, nat_tests)
 
 -- As many registers are in use as before, since the capacity is what it was.
 pub same-use : (bounds : Bounds) (vault : Meaning) (source : Source) (calls : List Call) (words chip words' : List ℕ) (used : ℕ)

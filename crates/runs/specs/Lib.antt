@@ -1,4 +1,5 @@
 pub mod LayingOut
 pub mod Steps
+pub mod Watching
 pub mod Runs
 pub mod Promises

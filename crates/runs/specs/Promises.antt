@@ -29,7 +29,7 @@ pub record KeepsEveryLaw (first : Drive) (calls : List Call) (given : List Answe
   pub ranges_in_order : EachPoint RangesInOrder first calls
   -- at every point the vault holds one key for each unit and each range row, all different, and nothing else
   pub one_key_each : EachPoint OneKeyEach first calls
-  -- no request that a call makes of the vault is refused
+  -- the vault refuses no request that is listed for an accepted call
   pub no_request_refused : NoRequestRefusedIn first calls given
   -- a key that has left the vault never stands there again
   pub no_key_returns : NoKeyReturnsIn first calls

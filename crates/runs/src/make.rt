@@ -1,4 +1,4 @@
-ghost use Rattle.std.specs.Prelude.{◌≡◌};
+ghost use Rattle.std.specs.Prelude.{◌≡◌, false, is_ok};
 ghost use Rattle.rules.specs.Asks.{reply};
 ghost use Rattle.rules.specs.Calls.{answer, after};
 
@@ -10,6 +10,7 @@ use table::session::{ReadingSession, WritingSession as Session};
 /// Makes one call. A method comes in a session of its caller, which is opened for it.
 pub fn make<C: Calls>(table: &mut C, call: Call) -> Answer
     ensures lent { C.lenders table.new ≡ C.lenders table.old }
+    ensures kept { is_ok result ≡ false → table.new ≡ table.old }
     ensures answer { result ≡ answer (C.model table.old) call }
     ensures after { C.model table.new ≡ after (C.model table.old) call }
 {
@@ -22,8 +23,7 @@ pub fn make<C: Calls>(table: &mut C, call: Call) -> Answer
             length,
             standing,
         } => {
-            let session = Session::open(caller)?;
-            let row = table.assign(&session, unit, start, length, standing)?;
+            let row = table.assign(&Session::open(caller)?, unit, start, length, standing)?;
             return Ok(Accepted::Assigned(row));
         }
         Call::Deassign { caller, row, keep } => table.deassign(&Session::open(caller)?, row, keep)?,

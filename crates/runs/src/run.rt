@@ -1,8 +1,10 @@
-ghost use Rattle.std.specs.Prelude.{◌≡◌, ◌∷◌};
+ghost use Rattle.std.specs.Prelude.{◌≡◌, ◌∷◌, true, false, is_ok};
 ghost use Rattle.rules.specs.Laws.{answers};
+ghost use Rattle.runs.specs.LayingOut.{laid_out, laying_check};
 ghost use Rattle.runs.specs.Promises.{RunsByTheRules};
 ghost use Rattle.runs.specs.Runs.{answers_of_run, end_of_run};
 ghost use Rattle.runs.specs.Steps.{calls_of, answers_of, after_all};
+ghost use Rattle.runs.specs.Watching.{Watched};
 
 use crate::make::make;
 use crate::observer::Observer;
@@ -25,6 +27,8 @@ pub fn run<'v, V: Vault, N: Numbering, O: Observer>(
     ensures answers { answers_of steps.new ≡ answers_of_run N.BOUNDS (V.meaning vault.old) source.entry (calls_of steps.old) }
     ensures last { ⟦<Table<'v, V, N> as Calls>⟧.model result ≡ end_of_run N.BOUNDS (V.meaning vault.old) source.entry (calls_of steps.old) }
     ensures lent { ⟦<Table<'v, V, N> as Calls>⟧.lenders result ≡ vault.entry.ghost_name ∷ V.KeySet.lenders vault.old }
+    ensures kept { is_ok (laying_check N.BOUNDS (V.meaning vault.old) source.entry) ≡ false → result.vault.now ≡ vault.old }
+    ensures watched { Watched O.saw (laid_out N.BOUNDS (V.meaning vault.old) source.entry) steps.new observer.old observer.new }
     ensures by_the_rules { RunsByTheRules N.BOUNDS (V.meaning vault.old) source.entry (calls_of steps.old) (answers_of steps.new) (⟦<Table<'v, V, N> as Calls>⟧.model result) }
 {
     let mut table = lay_out(vault, source);
@@ -38,6 +42,8 @@ pub fn make_all<C: Calls, O: Observer>(table: &mut C, steps: &mut [Step], observ
     ensures calls { calls_of steps.new ≡ calls_of steps.old }
     ensures answers { answers_of steps.new ≡ answers (C.model table.old) (calls_of steps.old) }
     ensures last { C.model table.new ≡ after_all (C.model table.old) (calls_of steps.old) }
+    ensures kept { (C.model table.old).closed ≡ true → table.new ≡ table.old }
+    ensures watched { Watched O.saw (C.model table.old) steps.new observer.old observer.new }
 {
     observer.see(table, &[]);
     for i in 0..steps.len() {

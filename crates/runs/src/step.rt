@@ -5,7 +5,7 @@ use rules::call::{Answer, Call};
 use rules::cause::Cause;
 
 /// A call of a run, and its answer once it is made.
-#[derive(Clone, Copy, PartialEq, Eq)]
+#[derive(Clone, Copy)]
 pub struct Step {
     pub call: Call,
     /// What it was answered; before that anything, since the run writes over it.

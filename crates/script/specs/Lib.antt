@@ -1,4 +1,2 @@
-pub mod Number
-pub mod Line
-pub mod Spelling
-pub mod Says
+pub mod Kept
+pub mod Faithful

@@ -1,20 +1,12 @@
 //! The rehearsal script: text in, the layout and the calls out.
 #![tactic(auto)]
 
-pub mod calls;
-mod commands;
-pub mod error;
-pub mod fault;
-mod keywords;
-pub mod kinds;
-mod laying_out;
-mod methods;
-pub mod numbers;
+mod error;
 mod parser;
-mod words;
+mod script;
 
-pub use calls::{Layout, Line, Order, Script, Source};
-pub use error::ScriptError;
-pub use fault::Fault;
-pub use kinds::{NumberingKind, VaultKind};
-pub use parser::parse;
+pub use crate::error::ScriptError;
+pub use crate::parser::parse;
+pub use crate::script::{Line, Script};
+pub use lines::{Layout, NumberingKind, Order, Source, VaultKind};
+pub use words::Fault;

@@ -1,21 +1,17 @@
-//! Reads a script line by line, and a line by its first word.
-ghost use Rattle.std.specs.Prelude.{◌∷◌, IfOk, codes, OnOk};
-ghost use Rattle.script.specs.Says.{Faithful, NamesCaller, Says, SoFar};
+//! Reads a script line by line.
+ghost use Rattle.std.specs.Prelude.{◌≡◌, ◌++◌, IfOk, OnOk};
+ghost use Rattle.script.specs.Faithful.{IsRead, SoFar};
+ghost use Rattle.script.specs.Kept.{kept_of, kept_so_far};
 
-use crate::calls::{Line, Order, Script};
-use crate::commands;
 use crate::error::ScriptError;
-use crate::fault::Fault;
-use crate::keywords::Keyword;
-use crate::laying_out::layout;
-use crate::methods::method;
-use crate::words::Words;
-use rules::call::ADMINS;
+use crate::script::{Line, Script};
+use lines::{layout, order};
 use std::alloc::Global;
+use words::{Fault, Words};
 
 /// Reads a whole script. The first line that cannot be read decides the error.
 pub fn parse<'a>(heap: Global, text: &'a str) -> Result<Script<'a>, ScriptError<'a>>
-    ensures { IfOk result Faithful }
+    ensures { IfOk result (IsRead text.now) }
 {
     let mut script = None;
     for (index, line) in text.lines().enumerate() {
@@ -39,7 +35,7 @@ fn read_line<'a>(
     line: &'a str,
 ) -> Result<(), Fault<'a>>
     requires { SoFar script.old }
-    ensures { OnOk result (SoFar script.new) }
+    ensures { OnOk result (SoFar script.new × (kept_so_far script.new ≡ kept_so_far script.old ++ kept_of number line.now)) }
 {
     let mut words = Words::new(line);
     let Some(first) = words.next() else {
@@ -66,38 +62,4 @@ fn read_line<'a>(
         }
     }
     Ok(())
-}
-
-/// What a line wants of the table, after its first word.
-fn order<'a>(first: &'a str, mut words: Words<'a>) -> Result<Order<'a>, Fault<'a>>
-    ensures { IfOk result (λ order. Says order (first.now ∷ words.entry)) }
-{
-    match Keyword::try_from(first)? {
-        Keyword::Fresh | Keyword::Load => Err(Fault::LayoutTwice),
-        Keyword::Admins => method(ADMINS, words),
-        Keyword::User => {
-            let caller = user(&mut words)?;
-            method(caller, words)
-        }
-        Keyword::Method(_) => Err(Fault::NeedsCaller(first)),
-        Keyword::Create => commands::create(words),
-        Keyword::Delete => commands::delete(words),
-        Keyword::Format => commands::format(words),
-        Keyword::Access => commands::access(words),
-        Keyword::Controls => commands::controls(words),
-        Keyword::Unused => commands::unused(words),
-        Keyword::Describe => commands::describe(words),
-        Keyword::Save => commands::save(words),
-    }
-}
-
-/// `user N`, after its first word. No user has the number that stands for Admins.
-fn user<'a>(words: &mut Words<'a>) -> Result<u32, Fault<'a>>
-    ensures { IfOk result (λ caller. NamesCaller caller (codes "user" ∷ words.old) words.new) }
-{
-    let caller = words.number("N")?;
-    if caller == ADMINS {
-        return Err(Fault::NoUser);
-    }
-    Ok(caller)
 }

@@ -44,11 +44,7 @@ bit-number bits i = ap (λ n. bit_at n i) (as-mask bits) ∙ bit_mask_l bits i
 
 -- each bit is read back
 pub selected-number : (bits : List Bool) (i : ℕ) → selected (number_with bits) i ≡ get_or bits i false
-selected-number bits i = ap (λ m. eqb m 1) (bit-number bits i) ∙ go (get_or bits i false)
-  where
-    go : (b : Bool) → eqb (cond b 1 0) 1 ≡ b
-    go true = refl
-    go false = refl
+selected-number bits i = ap (λ m. eqb m 1) (bit-number bits i) ∙ grind (arith, nat_tests)
 
 -- a number is made of its bits
 pub number-selected : (k n : ℕ) → n < 2 ^ k → number_with (map (selected n) (range_with_len 0 k)) ≡ n

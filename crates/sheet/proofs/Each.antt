@@ -1,13 +1,10 @@
 -- A list in which a test finds nothing, by its elements.
 use Rattle.std.proofs.Common.{◌≡◌, ℕ, ◌+◌, ◌<◌, Bool, false, List, length, get_or, sym, ap, ◌∙◌, arith}
-use Rattle.std.proofs.lemmas.Bool.{both_ways, false_from_ne_true}
 use Rattle.std.proofs.lemmas.List.Elements.{All-from_get_or}
-use Rattle.std.proofs.lemmas.List.Folds.{list_any_at, list_any_none}
+use Rattle.std.proofs.lemmas.List.Folds.{list_any_none}
 use Rattle.std.proofs.lemmas.List.FromFn.{length-enumerate_from, get_or-enumerate_from}
-use Rattle.std.specs.List.{All, enumerate_from, list_any}
-
-pub none_passes : {X : Type 0} (test : X → Bool) (xs : List X) → list_any test xs ≡ false → All (λ x. test x ≡ false) xs
-none_passes test xs f i d l = false_from_ne_true (test (get_or xs i d)) (λ t. both_ways (list_any test xs) f (list_any_at test xs i d l t))
+use Rattle.std.specs.List.{enumerate_from, list_any}
+use Rattle.rules.proofs.RowsKept.{none_passes}
 
 -- the elements with their numbers
 module _ {X : Type 0} (test : ℕ × X → Bool) (xs : List X) (d : X) where

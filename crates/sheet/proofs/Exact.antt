@@ -6,13 +6,13 @@ use Rattle.std.proofs.lemmas.List.FromFn.{length-enumerate_from}
 use Rattle.std.specs.List.{enumerate_from, list_any}
 use Rattle.vault.specs.Meaning.{Meaning, sound}
 use Rattle.vault.proofs.Checks.{Passed, all-passed, none-applies}
-use Rattle.fields.specs.Fields.{IsBytes}
-use Rattle.fields.proofs.Bytes.{number_at-lt}
 use Rattle.rules.specs.declared.numbering.Bounds.{Bounds}
 use Rattle.rules.specs.Drive.{Drive}
 use Rattle.rules.specs.Rows.{row}
 use Rattle.rules.specs.Sound.{Sound, serials}
 use Rattle.rules.specs.Units.{valid}
+use Rattle.fields.specs.Fields.{IsBytes}
+use Rattle.fields.proofs.Bytes.{number_at-lt}
 use Rattle.sheet.specs.declared.records.Header.{Header}
 use Rattle.sheet.specs.declared.records.RowRecord.{RowRecord}
 use Rattle.sheet.specs.Format.{Fits, header_of, laid_down, rows_offset, rows_on, total_beside, units_on}
@@ -25,7 +25,7 @@ use Rattle.sheet.proofs.Lengths.{length-rows_on, length-units_on}
 use Rattle.sheet.proofs.Masks.{mask-back, mask-bit}
 use Rattle.sheet.proofs.RowLists as lists
 use Rattle.sheet.proofs.RowLists.{Masked}
-use Rattle.sheet.proofs.RowOrders.{ordered, good-rows}
+use Rattle.sheet.proofs.Relations.{good-rows}
 use Rattle.sheet.proofs.SoundDrives.{Faultless, drive-sound, drive-no-faults}
 use Rattle.sheet.proofs.Widths.{order, header-fit, units-fit, rows-fit}
 
@@ -60,7 +60,7 @@ module _ (d : Drive) (h : Sound d) (fits : Fits d.numbering) where
     rows-kept : (rows_said bounds (mask_of d.rows) records ≡ d.rows) × (list_any (λ entry. one_of (row_faults bounds d.next entry.0 entry.1)) (enumerate_from 0 records) ≡ false)
     rows-kept = lists.rows-back bounds d.next (mask_of d.rows) apart 0 d.rows (λ i k e l.
         let same : k ≡ i = omega arith in
-        subst (λ j. Masked bounds d.next (mask_of d.rows) j (row k d.rows)) same (ordered bounds d.next d.rows found.rows k, mask-bit d.rows k l))
+        subst (λ j. Masked bounds d.next (mask_of d.rows) j (row k d.rows)) same (found.rows k, mask-bit d.rows k l))
 
     drive-back : drive_on bounds d.vault s ≡ d
     drive-back =

@@ -10,7 +10,6 @@ pub mod RowLists
 pub mod Lengths
 pub mod Layers
 pub mod Headers
-pub mod RowOrders
 pub mod Widths
 pub mod Exact
 pub mod Reading

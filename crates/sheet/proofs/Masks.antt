@@ -1,13 +1,11 @@
 -- The mask: which rows are in Single User Mode.
-use Rattle.std.proofs.Common.{◌≡◌, ℕ, ◌+◌, ◌*◌, ◌^◌, ◌<◌, Bool, true, false, cond, not, ◌||◌, eqb, List, [], ◌∷◌, map, length, refl, ap, ◌∙◌, subst, arith}
+use Rattle.std.proofs.Common.{◌≡◌, ℕ, ◌+◌, ◌^◌, ◌<◌, Bool, false, not, eqb, List, [], ◌∷◌, map, length, refl, ap, ◌∙◌, subst, arith}
 use Rattle.std.proofs.lemmas.List.{length-map, get_or-map}
-use Rattle.std.proofs.lemmas.Bool.{ne_eqb}
 use Rattle.std.proofs.lemmas.Bool.Decides.{nat_tests}
 use Rattle.std.specs.List.{enumerate_from, list_any, range_with_len}
 use Rattle.std.specs.Simd.Lanes.{mask_l}
 use Rattle.rules.specs.declared.numbering.Bounds.{Bounds}
 use Rattle.rules.specs.declared.row.Row.{Row}
-use Rattle.rules.specs.declared.row.Standing.TheVariants.{Shared, SingleUser}
 use Rattle.rules.specs.Methods.{selected}
 use Rattle.rules.specs.Rows.{free_row, row, is_single_user}
 use Rattle.sheet.specs.declared.records.RowRecord.{RowRecord}
@@ -23,13 +21,7 @@ single r = is_single_user r.standing
 singles-said : (bounds : Bounds) (mask n : ℕ) (records : List RowRecord)
     → map single (map (λ entry. row_said bounds mask entry.0 entry.1) (enumerate_from n records)) ≡ map (selected mask) (range_with_len n (length records))
 singles-said bounds mask n [] = refl
-singles-said bounds mask n (r ∷ rs) =
-    ap (λ b. b ∷ map single (map (λ entry. row_said bounds mask entry.0 entry.1) (enumerate_from (n + 1) rs))) (go (selected mask n))
-    ∙ ap (λ bits. selected mask n ∷ bits) (singles-said bounds mask (n + 1) rs)
-  where
-    go : (b : Bool) → is_single_user (cond b SingleUser Shared) ≡ b
-    go true = refl
-    go false = refl
+singles-said bounds mask n (r ∷ rs) = let h = singles-said bounds mask (n + 1) rs in grind (arith, nat_tests)
 
 pub mask-back : (bounds : Bounds) (mask : ℕ) (records : List RowRecord) {k : ℕ} → length records ≡ k → mask < 2 ^ k → mask_of (rows_said bounds mask records) ≡ mask
 mask-back bounds mask records {k} n l =
@@ -50,8 +42,4 @@ mask-zero rows = ap (λ n. eqb n 0) (as-mask (map single rows)) ∙ go rows
   where
     go : (rows : List Row) → eqb (mask_l (map single rows)) 0 ≡ not (list_any single rows)
     go [] = refl
-    go (r ∷ rs) = step (single r) (mask_l (map single rs)) (list_any single rs) (go rs)
-      where
-        step : (b : Bool) (m : ℕ) (any : Bool) → eqb m 0 ≡ not any → eqb (cond b 1 0 + 2 * m) 0 ≡ not (b || any)
-        step true m any h = ne_eqb (1 + 2 * m) 0 (λ e. omega arith)
-        step false m any h = grind (arith, nat_tests)
+    go (r ∷ rs) = let h = go rs in grind (arith, nat_tests)

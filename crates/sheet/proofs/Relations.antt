@@ -1,7 +1,7 @@
 -- The checks between records: the rows are in order.
-use Rattle.std.proofs.Common.{◌≡◌, ℕ, ◌<◌, ◌≢◌, true, false, ◌||◌, eqb, List, length, set, sym, refl, ap, ◌∙◌, subst, inl, inr, arith}
+use Rattle.std.proofs.Common.{◌≡◌, ℕ, ◌<◌, ◌≢◌, true, false, eqb, List, length, set, sym, refl, ap, ◌∙◌, subst, inl, inr, arith}
 use Rattle.std.proofs.lemmas.Bool.Decides.{nat_tests}
-use Rattle.std.proofs.lemmas.Bool.{cases_eq, cases_lt, both_ways, and_parts, and_from, eqb-true, eq-eqb, true≢false, false_from_ne_true}
+use Rattle.std.proofs.lemmas.Bool.{cases_eq, cases_lt, both_ways, and_parts, and_from, eq-eqb, true≢false, false_from_ne_true}
 use Rattle.std.proofs.lemmas.List.{length-set, get_or_past}
 use Rattle.std.specs.List.{list_any}
 use Rattle.rules.specs.declared.numbering.Bounds.{Bounds}
@@ -12,23 +12,32 @@ use Rattle.rules.specs.declared.row.Sought.{Sought}
 use Rattle.rules.specs.declared.row.Sought.TheVariants.{UnitRowOf, RangeOver, RangeSharing}
 use Rattle.rules.specs.declared.unit.LogicalUnit.{LogicalUnit}
 use Rattle.rules.specs.Methods.{other_rows}
-use Rattle.rules.specs.Rows.{blank, free_row, row, is_free, is_a_unit_row, is_range_row, unit_or, key_or, anew, covers, shares, unit_row_of, range_over, range_sharing, suits, is_there, numbered}
-use Rattle.rules.specs.Sound.{is_global, row_fits, row_key, AtMostOne, SoundRows}
-use Rattle.rules.specs.Units.{valid}
-use Rattle.rules.proofs.Blocks.{unit-row-is}
+use Rattle.rules.specs.Rows.{free_row, row, is_range_row, key_or, anew, covers, shares, unit_row_of, range_over, range_sharing, suits, is_there, numbered}
+use Rattle.rules.specs.Sound.{row_fits, AtMostOne, SoundRows}
+use Rattle.rules.proofs.Blocks.{over-parts, unit-row-is}
 use Rattle.rules.proofs.OtherWords.{sharing-is-a-common-block}
 use Rattle.rules.proofs.RowsKept.{over-apart}
 use Rattle.rules.proofs.Searches.{missed, at_there, not_there, written, unwritten}
 use Rattle.sheet.specs.Loading.{bad_serial, one_of, kind_faults}
 use Rattle.sheet.proofs.Each.{none_at, none_from}
+use Rattle.sheet.proofs.RowRecords.{RowInOrder}
 
--- what the checks of single records show of the rows
-pub record GoodRows (bounds : Bounds) (next : ℕ) (rows : List Row) : Type 0 where
-  pub global : (row 0 rows).kind ≡ Global
-  pub others : (r : ℕ) → 0 < r → is_global (row r rows).kind ≡ false
-  pub blanks : (r : ℕ) → is_free (row r rows).kind ≡ true → (row r rows).flags ≡ blank
-  pub given : (r : ℕ) → is_range_row (row r rows).kind ≡ true → bad_serial next (row_key (row r rows)) ≡ false
-  pub numbers : (r : ℕ) → (is_a_unit_row (row r rows).kind || is_range_row (row r rows).kind) ≡ true → valid bounds (unit_or (row r rows).kind bounds.mark) ≡ true
+-- each row is in order under its number
+abbrev pub GoodRows : Bounds → ℕ → List Row → Type 0
+GoodRows bounds next rows = (i : ℕ) → RowInOrder bounds next i (row i rows).kind (row i rows).flags
+
+-- where those in the table are, the free ones past it are too
+pub good-rows : (bounds : Bounds) (next : ℕ) (rows : List Row) → 0 < length rows → ((i : ℕ) → i < length rows → RowInOrder bounds next i (row i rows).kind (row i rows).flags) → GoodRows bounds next rows
+good-rows bounds next rows some each i = elim (cases_lt i (length rows)) [
+  | inl l ↦ each i l
+  | inr g ↦ subst (λ (r : Row). RowInOrder bounds next i r.kind r.flags) (sym (get_or_past rows i free_row g)) (record {
+    global = λ e. absurd (let b : ⊥ = omega arith in b);
+    others = λ _. refl;
+    blanks = λ _. refl;
+    given = λ e. absurd cc;
+    numbers = λ e. absurd cc;
+  })
+]
 
 module _ (units : List LogicalUnit) (rows : List Row) where
   -- ---- a search in the other rows
@@ -75,12 +84,10 @@ module _ (units : List LogicalUnit) (rows : List Row) where
         absent (UnitRowOf n) i j (grind (arith, nat_tests)) ne l
 
     apart : (n block : ℕ) (kind : Kind) → one_of (kind_faults units rows i kind) ≡ false → range_over n block kind ≡ true → range_over n block (row j rows).kind ≡ false
-    apart n block Free f t = absurd (true≢false (sym t))
-    apart n block Global f t = absurd (true≢false (sym t))
-    apart n block (UnitRow u) f t = absurd (true≢false (sym t))
-    apart n block (RangeRow u s q k) f t =
-        let p = and_parts (eqb u n) (covers s q block) t in
-        ap (λ m. range_over m block (row j rows).kind) (sym (eqb-true u n p.0)) ∙ over-apart u s q block (row j rows).kind p.1 (absent (RangeSharing u s q) i j (grind (arith, nat_tests)) ne l)
+    apart n block kind f t =
+        let p = over-parts n block kind t in
+        let g : one_of (kind_faults units rows i (RangeRow n p.0 p.1 p.2)) ≡ false = ap (λ k. one_of (kind_faults units rows i k)) (sym p.3) ∙ f in
+        over-apart n p.0 p.1 block (row j rows).kind (and_parts (eqb n n) _ (ap (range_over n block) (sym p.3) ∙ t)).1 (absent (RangeSharing n p.0 p.1) i j (grind (arith, nat_tests)) ne l)
 
   pub rows-sound : (bounds : Bounds) (next : ℕ) → length rows ≡ 17 → GoodRows bounds next rows
       → list_any (λ entry. one_of (kind_faults units rows entry.0 entry.1.kind)) (numbered rows) ≡ false → SoundRows units rows
@@ -88,11 +95,11 @@ module _ (units : List LogicalUnit) (rows : List Row) where
       let sound = none_at (λ (entry : ℕ × Row). one_of (kind_faults units rows entry.0 entry.1.kind)) rows free_row none in
       record {
         seventeen = long;
-        global = good.global;
-        others = good.others;
-        blanks = good.blanks;
+        global = (good 0).global refl;
+        others = λ r. (good r).others;
+        blanks = λ r. (good r).blanks;
         each = λ i. elim (cases_lt i (length rows)) [
-          | inl l ↦ row-fits next i (row i rows).kind (good.given i) (sound i l)
+          | inl l ↦ row-fits next i (row i rows).kind (good i).given (sound i l)
           | inr g ↦ ap (λ (x : Row). row_fits units rows x.kind) (get_or_past rows i free_row g)
         ];
         unit_rows = λ n. at_most_one (UnitRowOf n) refl (λ i j l t ne m. no_other i j ne m n (row i rows).kind (sound i l) t);

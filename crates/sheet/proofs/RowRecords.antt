@@ -10,7 +10,7 @@ use Rattle.rules.specs.declared.row.Row.{Row}
 use Rattle.rules.specs.declared.row.Standing.{Standing}
 use Rattle.rules.specs.declared.row.Standing.TheVariants.{Shared, SingleUser}
 use Rattle.rules.specs.Methods.{selected}
-use Rattle.rules.specs.Rows.{blank, is_free, is_a_unit_row, is_single_user}
+use Rattle.rules.specs.Rows.{blank, is_free, is_a_unit_row, is_range_row, unit_or, key_or, is_single_user}
 use Rattle.rules.specs.Sound.{is_global}
 use Rattle.rules.specs.Units.{valid}
 use Rattle.sheet.specs.declared.records.RowRecord.{RowRecord}
@@ -23,8 +23,8 @@ pub record RowInOrder (bounds : Bounds) (next i : ℕ) (kind : Kind) (flags : Fl
   pub global : i ≡ 0 → kind ≡ Global
   pub others : 0 < i → is_global kind ≡ false
   pub blanks : is_free kind ≡ true → flags ≡ blank
-  pub unit_row : (u : ℕ) → kind ≡ UnitRow u → valid bounds u ≡ true
-  pub range_row : (u start length serial : ℕ) → kind ≡ RangeRow u start length serial → (valid bounds u ≡ true) × (bad_serial next serial ≡ false)
+  pub given : is_range_row kind ≡ true → bad_serial next (key_or kind 0) ≡ false
+  pub numbers : (is_a_unit_row kind || is_range_row kind) ≡ true → valid bounds (unit_or kind bounds.mark) ≡ true
 
 -- none of the faults is the case
 pub none-of : (faults : List Bool) → one_of faults ≡ false → AllByRecursion (λ fault. fault ≡ false) faults
@@ -80,8 +80,8 @@ module _ (bounds : Bounds) (next i : ℕ) (r : RowRecord) (none : one_of (row_fa
           global = λ _. refl;
           others = λ l. absurd (let e = eqb-true i 0 z in omega arith);
           blanks = λ e. absurd cc;
-          unit_row = λ u e. absurd cc;
-          range_row = λ u start length serial e. absurd cc;
+          given = λ e. absurd cc;
+          numbers = λ e. absurd cc;
         },
       )
       go true false b m z _ = (
@@ -90,8 +90,8 @@ module _ (bounds : Bounds) (next i : ℕ) (r : RowRecord) (none : one_of (row_fa
           global = λ e. absurd (eqb-false i 0 z e);
           others = λ _. refl;
           blanks = λ _. free-blank m z;
-          unit_row = λ u e. absurd cc;
-          range_row = λ u start length serial e. absurd cc;
+          given = λ e. absurd cc;
+          numbers = λ e. absurd cc;
         },
       )
       go false z true m _ b = (
@@ -100,8 +100,8 @@ module _ (bounds : Bounds) (next i : ℕ) (r : RowRecord) (none : one_of (row_fa
           global = λ e. absurd (later m e);
           others = λ _. refl;
           blanks = λ e. absurd cc;
-          unit_row = λ u e. cc (named m);
-          range_row = λ u start length serial e. absurd cc;
+          given = λ e. absurd cc;
+          numbers = λ _. named m;
         },
       )
       go false z false m _ b = (
@@ -110,8 +110,8 @@ module _ (bounds : Bounds) (next i : ℕ) (r : RowRecord) (none : one_of (row_fa
           global = λ e. absurd (later m e);
           others = λ _. refl;
           blanks = λ e. absurd cc;
-          unit_row = λ u e. absurd cc;
-          range_row = λ u start length serial e. (cc (named m), let k : bad_serial next r.serial ≡ false = rw (m, b) at fine.1.1.1.1.1.1.1.0 in cc k);
+          given = λ _. rw (m, b) at fine.1.1.1.1.1.1.1.0;
+          numbers = λ _. named m;
         },
       )
 
@@ -160,12 +160,12 @@ module _ (bounds : Bounds) (apart : valid bounds bounds.mark ≡ false) (next i 
           (simp (marked, z), simp (marked, z, small false, unit-bit r.flags false))
       go (UnitRow u) h =
           let z = first (UnitRow u) r.flags h in
-          let v = h.unit_row u refl in
+          let v = h.numbers refl in
           (simp (not-mark u v, unit-bit r.flags true), simp (not-mark u v, z, v, small true, unit-bit r.flags true))
       go (RangeRow u start length serial) h =
           let z = first (RangeRow u start length serial) r.flags h in
-          let p = h.range_row u start length serial refl in
-          (simp (not-mark u p.0, unit-bit r.flags false), simp (not-mark u p.0, z, p.0, p.1, small false, unit-bit r.flags false))
+          let v = h.numbers refl in
+          (simp (not-mark u v, unit-bit r.flags false), simp (not-mark u v, z, v, h.given refl, small false, unit-bit r.flags false))
 
   module _ (r : Row) (order : RowInOrder bounds next i r.kind r.flags) where
     pub row-back : (mask : ℕ) → selected mask i ≡ is_single_user r.standing → row_said bounds mask i (record_of bounds r) ≡ r

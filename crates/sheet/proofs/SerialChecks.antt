@@ -21,11 +21,9 @@ use Rattle.rules.specs.FreshKeys.{key_of}
 use Rattle.rules.specs.Rows.{row, is_range_row, key_or}
 use Rattle.rules.specs.Sound.{unit_fits, serial_of, row_key, serials, SoundKeys, Sound}
 use Rattle.rules.specs.Units.{no_unit}
-use Rattle.rules.proofs.Holders.{key-held}
+use Rattle.rules.proofs.Places.{key-held, key-nonzero, words_long, unit-word}
 use Rattle.rules.proofs.Keys.{holds_at, make-keys, word_held}
 use Rattle.rules.proofs.Lookups.{all_lookup, lookup_key, has-from}
-use Rattle.rules.proofs.Places.{key-nonzero}
-use Rattle.rules.proofs.Words.{words_long, unit-word}
 use Rattle.sheet.specs.Loading.{bad_serial, holds_just}
 
 -- ---- from the checks

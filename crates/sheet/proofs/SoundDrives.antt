@@ -1,5 +1,5 @@
 -- A drive is in order just where the checks find no fault.
-use Rattle.std.proofs.Common.{◌≡◌, ◌<◌, ◌≤◌, true, false, not, ◌||◌, length, sym, refl}
+use Rattle.std.proofs.Common.{◌≡◌, ◌<◌, ◌≤◌, true, false, not, ◌||◌, length, sym, refl, ap, ◌∙◌}
 use Rattle.std.proofs.lemmas.Bool.{or_parts, or_from, not-false, not_from_true, true≢false}
 use Rattle.std.proofs.lemmas.List.Elements.{All-from_get_or}
 use Rattle.std.specs.List.{list_any}
@@ -47,7 +47,7 @@ module _ (d : Drive) where
         policy = h.policy;
         units = u.0;
         rows = rows-sound d.units d.rows d.numbering d.next h.seventeen h.rows r.0;
-        keys = keys-sound d.next d.vault d.units d.rows h.meaning h.just u.1 (All-from_get_or (λ r. row_key r < d.next) d.rows free_row (λ i l. key-below d.next (row i d.rows) h.next.0 (h.rows.given i)));
+        keys = keys-sound d.next d.vault d.units d.rows h.meaning h.just u.1 (All-from_get_or (λ r. row_key r < d.next) d.rows free_row (λ i l. key-below d.next (row i d.rows) h.next.0 (h.rows i).given));
       }
 
   numbers : Sound d → (kind : Kind) → row_fits d.units d.rows kind ≡ true → (is_a_unit_row kind || is_range_row kind) ≡ true → valid d.numbering (unit_or kind d.numbering.mark) ≡ true
@@ -65,7 +65,13 @@ module _ (d : Drive) where
     few = h.units.few;
     seventeen = h.rows.seventeen;
     units = units-no-faults d.numbering d.next d.units h.units (units-given d h);
-    rows = record { global = h.rows.global; others = h.rows.others; blanks = h.rows.blanks; given = row-given d h; numbers = λ r. numbers h (row r d.rows).kind (h.rows.each r) };
+    rows = λ i. record {
+      global = λ e. ap (λ k. (row k d.rows).kind) e ∙ h.rows.global;
+      others = h.rows.others i;
+      blanks = h.rows.blanks i;
+      given = row-given d h i;
+      numbers = numbers h (row i d.rows).kind (h.rows.each i);
+    };
     relations = or_from _ _ (not_from_true _ h.units.ordered) (or_from _ _ (not_from_true _ h.keys.apart) (or_from _ false (rows-no-faults d.units d.rows h.rows) refl));
     just = just-these d.next d.vault (serials d.units d.rows) h.keys;
     meaning = h.keys.meaning;

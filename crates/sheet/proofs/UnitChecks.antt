@@ -11,8 +11,8 @@ use Rattle.rules.specs.declared.unit.LogicalUnit.{LogicalUnit}
 use Rattle.rules.specs.Sound.{unit_fits, SoundUnits}
 use Rattle.rules.specs.Units.{no_unit, valid, exists, unit}
 use Rattle.rules.proofs.Lookups.{all_lookup, lookup_key}
+use Rattle.rules.proofs.RowsKept.{none_passes}
 use Rattle.sheet.specs.Loading.{one_of, unit_faults}
-use Rattle.sheet.proofs.Each.{none_passes}
 
 module _ (bounds : Bounds) (next : ℕ) where
   fits : (u : LogicalUnit) → one_of (unit_faults bounds next u) ≡ false → (unit_fits bounds u ≡ true) × (u.serial < next)

@@ -12,10 +12,10 @@ use Rattle.rules.specs.Drive.{Drive}
 use Rattle.rules.specs.Rows.{free_row, row, key_or}
 use Rattle.rules.specs.Sound.{Sound, unit_fits, row_fits, row_key}
 use Rattle.rules.specs.Units.{exists, unit}
+use Rattle.rules.proofs.RowsKept.{fits-exists, fits-inside}
 use Rattle.sheet.specs.declared.records.RowRecord.{RowRecord}
 use Rattle.sheet.specs.Format.{Fits, header_fields, row_fields, unit_fields}
 use Rattle.sheet.specs.Saving.{flag_bits, header_for, mask_of, number_with, record_of, sheet}
-use Rattle.rules.proofs.RowsKept.{fits-exists, fits-inside}
 use Rattle.sheet.proofs.UnitChecks.{exists-fits, exists-valid}
 use Rattle.sheet.proofs.Bits.{number-small}
 use Rattle.sheet.proofs.Headers.{HeaderInOrder, policy-said}
@@ -95,4 +95,4 @@ module _ (d : Drive) (h : Sound d) (fits : Fits d.numbering) where
 
   pub rows-fit : AllByRecursion (λ r. Fit (row_fields r)) records
   rows-fit = recursion_from_All (λ r. Fit (row_fields r)) records (All-map (λ r. Fit (row_fields r)) (record_of bounds) d.rows (All-from_get_or (λ r. Fit (row_fields (record_of bounds r))) d.rows free_row (λ i l.
-      row-fit (row i d.rows) (h.rows.each i) (key-below d.next (row i d.rows) h.next.0 (found.rows.given i)))))
+      row-fit (row i d.rows) (h.rows.each i) (key-below d.next (row i d.rows) h.next.0 (found.rows i).given))))

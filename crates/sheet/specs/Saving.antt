@@ -60,7 +60,7 @@ record_of_fields f = record {
 abbrev pub record_of : Bounds → Row → RowRecord
 record_of bounds r = record_of_fields (fields_of bounds r)
 
--- ---- the sheet of a drive, its units in rising order
+-- ---- the sheet of a drive: its units as they stand, which is in rising order, and its rows
 unfoldable pub sheet : Drive → List ℕ
 sheet d = laid_down (header_for d) d.units (map (record_of d.numbering) d.rows)
 

@@ -210,20 +210,9 @@ impl fmt::Display for ShownReply {
             .fmt(f),
             Err(cause) => ShownRefusal {
                 cause,
-                asked: self.with_status.then_some(way_of(self.ask)),
+                asked: self.with_status.then_some(self.ask.way()),
             }
             .fmt(f),
         }
-    }
-}
-
-/// How what is asked comes in: a method comes in a session of its caller.
-fn way_of(ask: Ask) -> Asked {
-    match ask {
-        Ask::Call(Call::Create { .. } | Call::Delete { .. } | Call::Format { .. }) => {
-            Asked::Command
-        }
-        Ask::Question(Question::ReadRow { .. }) | Ask::Call(_) => Asked::Method,
-        Ask::Question(_) => Asked::Command,
     }
 }

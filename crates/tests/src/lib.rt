@@ -1,12 +1,6 @@
-//! The rules against examples: vaults, tables, sheets, and the reading of scripts.
+//! The rules against examples: vaults, and what no script can say of tables and of sheets.
 #![tactic(auto)]
 
-#[cfg(test)]
-mod asks;
-#[cfg(test)]
-mod methods;
-#[cfg(test)]
-mod scripts;
 #[cfg(test)]
 mod sheets;
 #[cfg(test)]

@@ -1,5 +1,6 @@
 -- What follows where a call is refused, and where it is accepted.
-use Rattle.std.proofs.Common.{◌≡◌, Bool, true, false, cond, List, [], ◌∷◌, Some, None, Ok, Err, Option, Result, refl, ap}
+use Rattle.std.proofs.Common.{◌≡◌, Bool, true, false, List, [], ◌∷◌, Some, None, Ok, Err, Option, Result, is_ok, refl, arith}
+use Rattle.std.proofs.lemmas.Bool.Decides.{nat_tests}
 use Rattle.std.specs.List.{AllByRecursion}
 use Rattle.vault.specs.Checks.{first_of, answer, unless}
 
@@ -8,14 +9,18 @@ module _ {A C : Type 0} (done : A) where
   accepted None e = refl
   accepted (Some c) e = absurd (cc)
 
+  pub accepted-only : (refusal : Option C) → is_ok (answer refusal done) ≡ true → refusal ≡ None
+  accepted-only None e = refl
+  accepted-only (Some c) e = absurd (cc)
+
   pub unchanged : {S : Type 0} (refusal : Option C) (c : C) (was after : S) → ◌≡◌ {A = Result A C} (Err c) (answer refusal done) → was ≡ unless refusal was after
   unchanged (Some d) c was after e = refl
   unchanged None c was after e = absurd (cc)
 
--- a refusal is the same, whatever would have been answered
-pub refused-alike : {A B C : Type 0} (o : Option C) (x : A) (y : B) (c : C) → answer o x ≡ Err c → answer o y ≡ Err c
-refused-alike None x y c e = cc
-refused-alike (Some d) x y c e = let same : d ≡ c = cc in ap Err same
+-- what holds where there is none, and where there is one
+pub by_option : {A : Type 0} (o : Option A) (P : Option A → Type 0) → (o ≡ None → P None) → ((x : A) → o ≡ Some x → P (Some x)) → P o
+by_option None P none some = none refl
+by_option (Some x) P none some = some x refl
 
 pub changed : {C S : Type 0} (refusal : Option C) (was after : S) → refusal ≡ None → after ≡ unless refusal was after
 changed refusal was after e = rw e
@@ -26,11 +31,7 @@ Passed checks = AllByRecursion (λ check. check.0 ≡ false) checks
 
 pub all-passed : {C : Type 0} (checks : List (Bool × C)) → first_of checks ≡ None → Passed checks
 all-passed [] e = tt
-all-passed (check ∷ checks) e = go check.0 e (all-passed checks)
-  where
-    go : (b : Bool) → cond b (Some check.1) (first_of checks) ≡ None → (first_of checks ≡ None → Passed checks) → (b ≡ false) × Passed checks
-    go true e rest = absurd (cc)
-    go false e rest = (refl, rest e)
+all-passed (check ∷ checks) e = (grind (arith, nat_tests), all-passed checks (grind (arith, nat_tests)))
 
 pub none-applies : {C : Type 0} (checks : List (Bool × C)) → Passed checks → first_of checks ≡ None
 none-applies [] p = refl

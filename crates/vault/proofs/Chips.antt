@@ -1,21 +1,20 @@
 -- The registers of a chip as a vault.
-use Rattle.std.proofs.Common.{◌≡◌, ℕ, ◌<◌, ◌≤◌, Bool, true, false, not, ◌&&◌, eqb, List, [], ◌∷◌, length, get_or, take, set, Some, None, Ok, Err, Option, sym, refl, ap, ◌∙◌, arith}
+use Rattle.std.proofs.Common.{◌≡◌, ℕ, ◌<◌, ◌≤◌, true, false, not, ◌&&◌, eqb, List, [], ◌∷◌, length, get_or, take, set, Some, None, Ok, Err, sym, refl, ap, ◌∙◌, arith}
 use Rattle.std.specs.Option.{unwrap_or}
 use lib.Seq.{take-set-lt}
 use Rattle.std.proofs.lemmas.Bool.Decides.{nat_tests}
 use Rattle.std.proofs.lemmas.Bool.{eqb-true, true≢false, not-false}
 use Rattle.std.proofs.lemmas.List.{length-take-le, take_all}
-use Rattle.vault.specs.declared.refusal.VaultRefusal.{VaultRefusal}
-use Rattle.vault.specs.declared.refusal.VaultRefusal.TheVariants.{Unfit}
-use Rattle.vault.specs.Checks.{first_of, answer}
 use Rattle.packed.specs.First.{first}
 use Rattle.packed.specs.Rising.{rises}
 use Rattle.packed.proofs.Search.{found_within, found-passes}
 use Rattle.packed.proofs.Order.{has-absent}
+use Rattle.vault.specs.declared.refusal.VaultRefusal.{VaultRefusal}
+use Rattle.vault.specs.declared.refusal.VaultRefusal.TheVariants.{Unfit}
 use Rattle.vault.specs.Serials.{holds, adds, drops, collect}
 use Rattle.vault.specs.Meaning.{Meaning, Outcome, sound, with_held, put_refusal, swap_refusal, drop_refusal}
 use Rattle.vault.specs.Kinds.{chip_check, chip_meaning, fit, lowest, overwritten, nothing}
-use Rattle.vault.proofs.Checks.{accepted, all-passed}
+use Rattle.vault.proofs.Checks.{accepted, all-passed, by_option}
 use Rattle.vault.proofs.Words.{rises-collect, length-collect, holds-collect, holds-zero, collect-set, collect-clear, collect-swap}
 use Rattle.vault.proofs.Requests.{sound-from, put-passed, swap-passed, drop-passed}
 
@@ -23,11 +22,7 @@ pub fit-true : (words : List ℕ) → ◌≡◌ {A = Outcome} (Ok tt) (chip_chec
 fit-true words e = not-false _ (all-passed ((not (fit words), Unfit) ∷ []) (accepted tt _ e)).0
 
 pub fit-false : (words : List ℕ) (x : VaultRefusal) → ◌≡◌ {A = Outcome} (Err x) (chip_check words) → fit words ≡ false
-fit-false words x e = go (fit words) e
-  where
-    go : (b : Bool) → ◌≡◌ {A = Outcome} (Err x) (answer (first_of ((not b, Unfit) ∷ [])) tt) → b ≡ false
-    go true e = grind arith
-    go false e = refl
+fit-false words x e = grind (arith, nat_tests)
 
 pub fit-sound : (words : List ℕ) → fit words ≡ true → sound (record { capacity = length words; held = collect words }) ≡ true
 fit-sound words f = sound-from _ (rises-collect words (grind (arith, nat_tests))) (length-collect words)
@@ -57,11 +52,7 @@ module _ (used : ℕ) (words : List ℕ) (le : used ≤ length words) where
   -- a register in use that has the word w
   module _ (w : ℕ) (there : holds w (take used words) ≡ true) where
     pub found : first (λ v. eqb v w) (take used words) ≡ Some (lowest used words w)
-    found = go (first (λ v. eqb v w) (take used words)) (has-absent (λ v. v) w (take used words))
-      where
-        go : (o : Option ℕ) → (o ≡ None → holds w (take used words) ≡ false) → o ≡ Some (unwrap_or o used)
-        go (Some i) absent = refl
-        go None absent = absurd (true≢false (sym there ∙ absent refl))
+    found = by_option (first (λ v. eqb v w) (take used words)) (λ o. o ≡ Some (unwrap_or o used)) (λ e. absurd (true≢false (sym there ∙ has-absent (λ v. v) w (take used words) e))) (λ i _. refl)
 
     pub place : lowest used words w < used
     place = omega (arith, found_within (λ v. eqb v w) (take used words) (lowest used words w) found, size)

@@ -23,7 +23,7 @@ abbrev pub file_new : ℕ → Meaning
 file_new capacity = record { capacity = cond (can_be_capacity capacity) capacity 0; held = [] }
 
 -- ---- the key chip: the words that are not 0 of the registers in use, which are all of them, or none where they are unfit.
--- These take how many registers are in use and all the words, since `put_into` speaks of registers that are no chip yet
+-- These take how many registers are in use and all the words, since the words of unfit registers stay where they are
 abbrev pub fit : List ℕ → Bool
 fit words = can_be_capacity (length words) && distinct words
 
@@ -40,11 +40,11 @@ in_use words = cond (fit words) (length words) 0
 abbrev pub chip_new : List ℕ → Meaning
 chip_new words = cond (fit words) (record { capacity = length words; held = collect words }) nothing
 
--- the place of the lowest register in use that has this word
+-- the place of the lowest register in use that has this word; no accepted request meets a word that is in none
 abbrev pub lowest : ℕ → List ℕ → ℕ → ℕ
 lowest used words word = unwrap_or (first (λ w. nat_eq w word) (take used words)) used
 
--- with the word new in its place
+-- with `new` where `word` stands lowest
 abbrev pub overwritten : ℕ → List ℕ → ℕ → ℕ → List ℕ
 overwritten used words word new = slice_set words (lowest used words word) new
 

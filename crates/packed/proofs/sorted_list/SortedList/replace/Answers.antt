@@ -3,7 +3,7 @@ use Rattle.arrayvec.specs.ArrayVec.{ArrayVec, with_items}
 use Rattle.arrayvec.proofs.ArrayVecLemmas.{items-with_items}
 use Rattle.packed.specs.First.{first}
 use Rattle.packed.specs.Rising.{rises, change}
-use Rattle.packed.proofs.Order.{rises-replace, length-change, has-found, change-found}
+use Rattle.packed.proofs.Order.{rises-change, length-change, has-found, change-found}
 use Rattle.packed.proofs.Place.{has-gap, change-gap}
 use Rattle.packed.proofs.sorted_list.SortedList.replace.Goals as goal
 
@@ -19,7 +19,7 @@ pub invariant_of-self : goal.invariant_of-self
 invariant_of-self g c =
     let xs = c.args.self.now in
     let list = written g.T.Keyed.key c.args.new c.self.inside.items xs c.in-Ok.at (rw c.key_of.ensures at c.in-Ok.ensures.found) c.self.view_is c.deref_mut.result.now c.deref_mut.ensures.value in (
-      ap (rises g.T.Keyed.key 0) list ∙ rises-replace g.T.Keyed.key c.args.new 0 xs ∙ rw c.self.view_is at c.self.invariant.0,
+      ap (rises g.T.Keyed.key 0) list ∙ rises-change g.T.Keyed.key (g.T.Keyed.key c.args.new) (λ _. c.args.new) (λ _ e. sym e) 0 xs ∙ rw c.self.view_is at c.self.invariant.0,
       omega (arith, c.self.invariant.1, ap length list, length-change g.T.Keyed.key (g.T.Keyed.key c.args.new) (λ _. c.args.new) xs, ap length c.self.view_is),
     )
 

@@ -4,7 +4,7 @@ use Rattle.vault.proofs.Checks.{accepted, unchanged}
 use Rattle.layout.specs.View.{drive}
 use Rattle.rules.specs.Drive.{Drive}
 use Rattle.rules.specs.Commands.{create_checks, create_refusal, created}
-use Rattle.rules.proofs.Accepted.{passed}
+use Rattle.rules.proofs.Sounds.{passed}
 use Rattle.table.proofs.table_calls.TableCalls.create.Goals as goal
 
 -- there is room for the unit, none has its number, and the next serial is not the last

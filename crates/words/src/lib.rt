@@ -1,0 +1,10 @@
+//! A line of a script: its words, one after the other, and the numbers that they write.
+#![tactic(auto)]
+
+mod fault;
+mod numbers;
+mod words;
+
+pub use fault::Fault;
+pub use numbers::{Number, NumberFault};
+pub use words::{Words, number_of};
