@@ -2,8 +2,10 @@
 # Tries the misuses that the build refuses, each on a copy: the compiler has to refuse it, with the error that it is named for.
 # They never reach the prover, so they cannot stand among the must-fail edits. A file refused/NAME.edit has a line `crate:`, a line
 # `error:` with the compiler's own word, a line `file:`, and then pairs of lines `old:` and `new:`. Says nothing where all is well.
+# refused.sh [EDIT]: by default all of them, one a processor at a time.
 set -euo pipefail
 root=$(cd "$(dirname "$0")/.." && pwd)
+[ $# -gt 0 ] || exec xargs -0 -n 1 -P "$(nproc)" "$0" < <(printf '%s\0' "$root"/tools/refused/*.edit)
 
 fail() {
     echo "refused: $*" >&2
@@ -33,18 +35,22 @@ word() {
     sed -n "s/^$1: //p" "$2"
 }
 
-for edit in "$root"/tools/refused/*.edit; do
-    name=$(basename "$edit" .edit)
-    crate=$(word crate "$edit")
-    copy=$(mktemp -d)
-    trap 'rm -rf "$copy"' EXIT
-    cp -R "$root/crates.txt" "$root/crates" "$copy/"
-    rm -rf "$copy"/crates/*/out
-    turn "$edit" "$copy/crates/$crate/$(word file "$edit")" || fail "$name does not fit its file"
-    if (cd "$copy/crates/$crate" && rt check) >"$copy/log" 2>&1; then
-        fail "$name is not refused"
-    fi
-    first=$(grep -o 'error\[[a-z0-9-]*\]' "$copy/log" | head -n 1 || true)
-    [ "$first" = "error[$(word error "$edit")]" ] || fail "$name is refused for another reason: $(grep error "$copy/log" | head -n 3)"
-    rm -rf "$copy"
+edit=$1
+name=$(basename "$edit" .edit)
+crate=$(word crate "$edit")
+copy=$(mktemp -d)
+trap 'rm -rf "$copy"' EXIT
+tar -C "$root" --exclude='crates/*/out' -cf - crates.txt crates | tar -C "$copy" -xf -
+# libraries that are built already serve the copy too
+for library in "$root"/crates/*/out/rlib; do
+    [ -d "$library" ] || continue
+    out=$copy${library#"$root"}
+    mkdir -p "$out"
+    cp -al "$library/." "$out" 2>/dev/null || cp -R "$library/." "$out"
 done
+turn "$edit" "$copy/crates/$crate/$(word file "$edit")" || fail "$name does not fit its file"
+if (cd "$copy/crates/$crate" && rt check) >"$copy/log" 2>&1; then
+    fail "$name is not refused"
+fi
+first=$(grep -o 'error\[[a-z0-9-]*\]' "$copy/log" | head -n 1 || true)
+[ "$first" = "error[$(word error "$edit")]" ] || fail "$name is refused for another reason: $(grep error "$copy/log" | head -n 3)"

@@ -3,7 +3,7 @@ use Rattle.std.proofs.Common.{◌≡◌, ℕ, zero, suc, ◌+◌, ◌-◌, ◌*�
 use Rattle.std.proofs.Math.Nat.{add-mul, add-zero, div-one, mul_assoc, pow-succ', zero-mul}
 use Rattle.std.proofs.Math.Seq.{drop-append-add, take-append_seam}
 use Rattle.std.proofs.lemmas.Bool.{cases_lt}
-use Rattle.std.proofs.lemmas.List.{append-nil, append_assoc, drop-drop, get_or-drop, length-append, length-drop, length-take, take-append-drop, take_more}
+use Rattle.std.proofs.lemmas.List.{append-nil, append_assoc, drop-drop, get_or-drop, length-append, length-drop, length-take, take-append-drop, take_all, take_more}
 use Rattle.std.proofs.lemmas.Grind.{flat_map-append}
 use Rattle.std.proofs.lemmas.Nat.{div-mul-add}
 use Rattle.std.specs.Int.{byte_at}
@@ -63,6 +63,11 @@ module _ {A : Type 0} (enc : A → List ℕ) (at : ℕ) (old : List ℕ) (within
 pub number_at-front : (k n : ℕ) (rest : List ℕ) → n < 256 ^ k → number_at 0 k (big_bytes k n ++ rest) ≡ n
 unfolding number_at
 number_at-front k n rest h = big_number-reads_back k n rest h
+
+-- to the end of a slice
+pub number_at-rest : (at k : ℕ) (s : List ℕ) → big_number k (take (length s - at) (drop at s)) ≡ number_at at k s
+unfolding number_at
+number_at-rest at k s = ap (big_number k) (take_all (length s - at) (drop at s) (omega (arith, length-drop at s)))
 
 pub number_at-skip : (front : List ℕ) (at k : ℕ) (rest : List ℕ) → number_at (length front + at) k (front ++ rest) ≡ number_at at k rest
 unfolding number_at

@@ -11,7 +11,7 @@ use Rattle.rules.specs.declared.call.Call.TheVariants.{Assign, Deassign, SetRang
 use Rattle.rules.specs.declared.row.Flags.{Flags}
 use Rattle.words.specs.Line.{where_true}
 use Rattle.lines.specs.Spelling.{access_word, numbering_word, standing_words, vault_word}
-use Rattle.words.specs.Number.{Writes32, Writes64, WriteAll32}
+use Rattle.numerals.specs.Number.{Writes32, Writes64, WriteAll32}
 use Rattle.lines.specs.declared.calls.Order.{Order}
 use Rattle.lines.specs.declared.calls.Order.TheVariants as orders
 use Rattle.lines.specs.declared.calls.Layout.{Layout}

@@ -26,32 +26,33 @@ pub fn make<C: Calls>(table: &mut C, call: Call) -> Answer
             let row = table.assign(&Session::open(caller)?, unit, start, length, standing)?;
             return Ok(Accepted::Assigned(row));
         }
-        Call::Deassign { caller, row, keep } => table.deassign(&Session::open(caller)?, row, keep)?,
+        Call::Deassign { caller, row, keep } => table.deassign(&Session::open(caller)?, row, keep),
         Call::SetRange {
             caller,
             row,
             start,
             length,
-        } => table.set_range(&Session::open(caller)?, row, start, length)?,
+        } => table.set_range(&Session::open(caller)?, row, start, length),
         Call::SetLocks { caller, row, flags } => {
-            table.set_locks(&Session::open(caller)?, row, flags)?;
+            table.set_locks(&Session::open(caller)?, row, flags)
         }
-        Call::GenKey { caller, row } => table.gen_key(&Session::open(caller)?, row)?,
-        Call::Erase { caller, row } => table.erase(&Session::open(caller)?, row)?,
+        Call::GenKey { caller, row } => table.gen_key(&Session::open(caller)?, row),
+        Call::Erase { caller, row } => table.erase(&Session::open(caller)?, row),
         Call::Reactivate {
             caller,
             selection,
             policy,
         } => {
-            let outcome = table.reactivate(Session::open(caller)?, selection, policy);
-            let rows = outcome.map_err(|refused| refused.cause)?;
-            return Ok(Accepted::SingleUserRows(rows));
+            return match table.reactivate(Session::open(caller)?, selection, policy) {
+                Ok(rows) => Ok(Accepted::SingleUserRows(rows)),
+                Err(refused) => Err(refused.cause),
+            };
         }
-        Call::Create { unit, blocks } => table.create(unit, blocks)?,
-        Call::Delete { unit } => table.delete(unit)?,
-        Call::Format { unit } => table.format(unit)?,
-        Call::Reset { caller } => table.reset(&Session::open(caller)?)?,
-    }
+        Call::Create { unit, blocks } => table.create(unit, blocks),
+        Call::Delete { unit } => table.delete(unit),
+        Call::Format { unit } => table.format(unit),
+        Call::Reset { caller } => table.reset(&Session::open(caller)?),
+    }?;
     Ok(Accepted::Success)
 }
 

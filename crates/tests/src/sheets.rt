@@ -62,7 +62,7 @@ fn the_descriptor_is_written(rt: HostRuntime) {
 }
 
 #[test]
-fn a_short_buffer_is_left_alone(rt: HostRuntime) {
+fn a_buffer_too_short_to_save_is_left_alone(rt: HostRuntime) {
     let mut file = KeyFile::new(15);
     let mut table = Table::<_, Nvme>::fresh(&mut file);
     assert_eq!(rt; numbered(table.create(1, 100)), Ok(()));
@@ -70,6 +70,12 @@ fn a_short_buffer_is_left_alone(rt: HostRuntime) {
     assert!(rt; table.save(&mut out) == Err(Cause::BufferShort { needed: 592 }));
     assert!(rt; table.save(&mut []) == Err(Cause::BufferShort { needed: 592 }));
     assert_eq!(rt; out, [0xA5; 591]);
+}
+
+#[test]
+fn a_buffer_too_short_to_describe_is_left_alone(rt: HostRuntime) {
+    let mut file = KeyFile::new(15);
+    let table = Table::<_, Nvme>::fresh(&mut file);
     let mut out = [0xA5; 19];
     assert!(rt; table.describe(&mut out) == Err(Cause::BufferShort { needed: 20 }));
     assert!(rt; table.describe(&mut []) == Err(Cause::BufferShort { needed: 20 }));
@@ -100,13 +106,25 @@ fn a_chip_is_checked_against_a_sheet(rt: HostRuntime) {
 fn a_closed_table_answers_29_to_all(rt: HostRuntime) {
     let mut file = KeyFile::new(15);
     let table = Table::<_, Nvme>::load(&mut file, &[]);
-    let mut out = [0xA5; 640];
-    for len in [19, 640] {
-        let (buffer, _) = out.split_at_mut_checked(len).expect(&rt, "there are fewer");
-        assert_eq!(rt; numbered(table.save(buffer)), Err(29));
-        assert_eq!(rt; numbered(table.describe(buffer)), Err(29));
-    }
-    assert_eq!(rt; out, [0xA5; 640]);
+    let mut short = [0xA5; 19];
+    let mut long = [0xA5; 640];
+    let saved = [
+        numbered(table.save(&mut short)),
+        numbered(table.save(&mut long)),
+    ];
+    assert_eq!(rt; saved, [Err(29); 2]);
+    let described = [
+        numbered(table.describe(&mut short)),
+        numbered(table.describe(&mut long)),
+    ];
+    assert_eq!(rt; described, [Err(29); 2]);
+    assert!(rt; short == [0xA5; 19] && long == [0xA5; 640]);
+}
+
+#[test]
+fn a_closed_table_answers_29_to_a_reader(rt: HostRuntime) {
+    let mut file = KeyFile::new(15);
+    let table = Table::<_, Nvme>::load(&mut file, &[]);
     let session = WritingSession::open(17)
         .ok()
         .expect(&rt, "caller 17 is one");

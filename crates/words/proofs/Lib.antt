@@ -1,2 +1,1 @@
-mod Digits
 pub mod Rejoined

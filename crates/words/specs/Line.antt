@@ -2,7 +2,7 @@
 use Rattle.std.specs.Prelude.{◌≡◌, ℕ, Bool, true, cond, ◌⊎◌, List, [], ◌∷◌, filter, length, nat_lt, is_err, Ok, Err, Result, ◌==◌}
 use Rattle.std.specs.List.{before_first, join_with_byte, slice_split}
 use Rattle.std.specs.Borrow.{Bor}
-use Rattle.words.specs.declared.numbers.NumberFault.{NumberFault}
+use Rattle.numerals.specs.declared.NumberFault.{NumberFault}
 
 -- a line up to its comment
 abbrev pub uncommented : List ℕ → List ℕ

@@ -2,9 +2,7 @@
 #![tactic(auto)]
 
 mod fault;
-mod numbers;
 mod words;
 
 pub use fault::Fault;
-pub use numbers::{Number, NumberFault};
 pub use words::{Words, number_of};

@@ -2,10 +2,10 @@
 ghost use Rattle.std.specs.Prelude.{◌≡◌, [], ◌∷◌, IfOk, string_bytes, MatchResult, IsErr, ◌≢◌, Bool, List, ℕ, vec_items};
 ghost use Rattle.std.specs.Iterator.{YieldsFirstRef, item_count};
 ghost use Rattle.words.specs.Line.{uncommented, words_of, spaced, where_true, Given, Counted};
-ghost use Rattle.words.specs.Number.{WriteAll32};
+ghost use Rattle.numerals.specs.Number.{WriteAll32};
 
 use crate::fault::Fault;
-use crate::numbers::{Number, NumberFault};
+use numerals::{Number, NumberFault};
 use std::alloc::{AllocError, Global};
 use std::marker::Model;
 
@@ -117,8 +117,9 @@ impl<'a> Words<'a> {
 pub fn number_of<'a, N: Number>(word: &'a str) -> Result<N, Fault<'a>>
     ensures { MatchResult result (λ n. N.written word.now ≡ Ok n) (λ _. IsErr (N.written word.now)) }
 {
-    N::parse(word).map_err(|fault| match fault {
-        NumberFault::NotANumber => Fault::NotANumber(word),
-        NumberFault::TooLarge => Fault::TooLarge(word),
-    })
+    match N::parse(word) {
+        Ok(number) => Ok(number),
+        Err(NumberFault::NotANumber) => Err(Fault::NotANumber(word)),
+        Err(NumberFault::TooLarge) => Err(Fault::TooLarge(word)),
+    }
 }

@@ -2,7 +2,7 @@
 use Rattle.std.proofs.Common.{ℕ, ◌<◌, ◌^◌, List}
 use Rattle.std.specs.List.{AllByRecursion, fold}
 use Rattle.std.specs.Prelude.{bit_or}
-use Rattle.words.specs.Number.{WriteAll32}
+use Rattle.numerals.specs.Number.{WriteAll32}
 use Rattle.lines.specs.Says.{NameRows}
 use Rattle.lines.proofs.methods.selection.Given as goal
 

@@ -1,4 +1,4 @@
-use Rattle.std.proofs.Common.{ap, ◌∙◌}
+use Rattle.std.proofs.Common.{ap, ◌∙◌, arith}
 use Rattle.runs.specs.Steps.{calls_of}
 use Rattle.runs.proofs.Kept.{by-the-rules, shut-out}
 use Rattle.runs.proofs.run.run.Goals as goal
@@ -13,3 +13,12 @@ pub returns-clause-kept : goal.returns-clause-kept
 returns-clause-kept g c = λ refused.
     ap (λ t. t.vault.now) (c.make_all.ensures.kept (ap (λ d. d.closed) c.lay_out-table.ensures.model ∙ shut-out _ _ c.lay_out-table.ensures.begins refused))
     ∙ c.lay_out-table.ensures.same
+
+pub returns-clause-watched : goal.returns-clause-watched
+returns-clause-watched g c = grind arith
+
+pub returns-clause-answers : goal.returns-clause-answers
+returns-clause-answers g c = grind arith
+
+pub returns-clause-last : goal.returns-clause-last
+returns-clause-last g c = grind arith

@@ -15,14 +15,6 @@ module _ {A : Type 0} (key : A → ℕ) (new : A) (v : ArrayVec A) (xs : List A)
       ∙ ap (λ ys. set ys i new) (same ∙ items)
       ∙ sym (change-found key (key new) (λ _. new) xs i found new)
 
-pub invariant_of-self : goal.invariant_of-self
-invariant_of-self g c =
-    let xs = c.args.self.now in
-    let list = written g.T.Keyed.key c.args.new c.self.inside.items xs c.in-Ok.at (rw c.key_of.ensures at c.in-Ok.ensures.found) c.self.view_is c.deref_mut.result.now c.deref_mut.ensures.value in (
-      ap (rises g.T.Keyed.key 0) list ∙ rises-change g.T.Keyed.key (g.T.Keyed.key c.args.new) (λ _. c.args.new) (λ _ e. sym e) 0 xs ∙ rw c.self.view_is at c.self.invariant.0,
-      omega (arith, c.self.invariant.1, ap length list, length-change g.T.Keyed.key (g.T.Keyed.key c.args.new) (λ _. c.args.new) xs, ap length c.self.view_is),
-    )
-
 pub returns-in-Ok : goal.returns-in-Ok
 returns-in-Ok g c =
     let found = rw c.key_of.ensures at c.in-Ok.ensures.found in
@@ -30,6 +22,14 @@ returns-in-Ok g c =
       there = sym (has-found g.T.Keyed.key _ c.args.self.now c.in-Ok.at found);
       list = written g.T.Keyed.key c.args.new c.self.inside.items c.args.self.now c.in-Ok.at found c.self.view_is c.deref_mut.result.now c.deref_mut.ensures.value;
     }
+
+pub invariant_of-self : goal.invariant_of-self
+invariant_of-self g c =
+    let xs = c.args.self.now in
+    let list = (returns-in-Ok g c).list in (
+      ap (rises g.T.Keyed.key 0) list ∙ rises-change g.T.Keyed.key (g.T.Keyed.key c.args.new) (λ _. c.args.new) (λ _ e. sym e) 0 xs ∙ rw c.self.view_is at c.self.invariant.0,
+      omega (arith, c.self.invariant.1, ap length list, length-change g.T.Keyed.key (g.T.Keyed.key c.args.new) (λ _. c.args.new) xs, ap length c.self.view_is),
+    )
 
 pub returns-in-Err : goal.returns-in-Err
 returns-in-Err g c =

@@ -1,4 +1,4 @@
-use Rattle.std.proofs.Common.{rules, ◌≡◌, ℕ, cond, sym, ap, ◌∙◌}
+use Rattle.std.proofs.Common.{rules, arith, ◌≡◌, ℕ, cond, sym, ap, ◌∙◌}
 use Rattle.vault.proofs.Checks.{unchanged}
 use Rattle.layout.specs.View.{drive}
 use Rattle.rules.specs.Drive.{Drive, with_rows, with_vault, spent}
@@ -34,7 +34,7 @@ returns-else-is_unit_row-clause-after g c =
     let t = c.args.self.now in
     let d : Drive = drive t.layout t.closed g.N.Numbering.BOUNDS (g.V.KeySet.meaning t.vault.now) in
     let by = after-by d c.args.session.now.caller c.args.unit c.args.start c.args.length c.args.standing c.in_ok-row.row c.in_ok-row.is_unit_row c.in_ok-row.ensures.answer in
-    let made : drive c.add_range.new.self c.put_fresh_key.new.self.closed g.N.Numbering.BOUNDS (g.V.KeySet.meaning c.put_fresh_key.new.self.vault.now) ≡ range_row_made d c.in_ok-row.row c.args.unit c.args.start c.args.length = search rules in
+    let made : drive c.add_range.new.self c.put_fresh_key.new.self.closed g.N.Numbering.BOUNDS (g.V.KeySet.meaning c.put_fresh_key.new.self.vault.now) ≡ range_row_made d c.in_ok-row.row c.args.unit c.args.start c.args.length = grind arith in
     made
     ∙ ap (λ row. range_row_made d row c.args.unit c.args.start c.args.length) by.0
     ∙ sym (ap (λ b. cond b (unit_row_assigned d c.args.unit c.args.standing) (range_row_assigned d c.args.unit c.args.start c.args.length c.args.standing)) c.if-is_unit_row.false)

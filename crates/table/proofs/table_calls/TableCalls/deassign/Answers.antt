@@ -1,3 +1,4 @@
+use Rattle.std.proofs.Common.{arith}
 use Rattle.vault.proofs.Checks.{unchanged}
 use Rattle.layout.specs.View.{drive}
 use Rattle.rules.specs.Drive.{Drive}
@@ -9,3 +10,6 @@ returns-in_err-check_deassign-clause-after g c =
     let t = c.args.self.now in
     let d : Drive = drive t.layout t.closed g.N.Numbering.BOUNDS (g.V.KeySet.meaning t.vault.now) in
     unchanged tt (deassign_refusal d c.args.session.now.caller c.args.row c.args.keep) _ d (deassigned d c.args.row c.args.keep) c.in_err-check_deassign.ensures.answer
+
+pub returns-clause-after : goal.returns-clause-after
+returns-clause-after g c = grind arith

@@ -1,4 +1,4 @@
-use Rattle.std.proofs.Common.{ap, ◌∙◌}
+use Rattle.std.proofs.Common.{ap, ◌∙◌, rules}
 use Rattle.vault.specs.Meaning.{sound, drop_refusal}
 use Rattle.vault.specs.Views.{chip_view}
 use Rattle.vault.proofs.Checks.{accepted, changed}
@@ -24,3 +24,6 @@ returns-clause-after c =
     then-means v.used words v.sized.0 c.overwrite.new.self.used c.overwrite.new.self.registers.now c.overwrite.ensures.used c.args.serial 0 c.overwrite.ensures.words
     (drop-leaves v.used words v.sized.0 c.args.serial e)
     ∙ changed (drop_refusal (chip_view v) c.args.serial) (chip_view v) _ e
+
+pub returns-clause-words : goal.returns-clause-words
+returns-clause-words c = search rules

@@ -1,7 +1,7 @@
 -- The word that is read next adds its number after the ones so far.
 use Rattle.std.proofs.Common.{◌≡◌, ℕ, List, [], ◌∷◌, ◌++◌, map, Ok, Result, append_assoc, rules}
 use Rattle.std.proofs.lemmas.List.{map-append}
-use Rattle.words.specs.declared.numbers.NumberFault.{NumberFault}
+use Rattle.numerals.specs.declared.NumberFault.{NumberFault}
 use Rattle.words.proofs.words.Words.numbers.Goals as goal
 
 one_more : (writes : List ℕ → Result ℕ NumberFault) (all : List (Result ℕ NumberFault)) (w : List ℕ) (before after : List (List ℕ)) (ns ms : List ℕ) (n : ℕ) →

@@ -1,6 +1,6 @@
 -- The numbers so far are those of the words before the ones that are left.
 use Rattle.std.proofs.Common.{◌≡◌, ◌^◌, ◌++◌, map, Ok, vec_items}
-use Rattle.words.specs.Number.{fitted, read}
+use Rattle.numerals.specs.Number.{fitted, read}
 use Rattle.words.proofs.words.Words.numbers.Given as goal
 
 abbrev pub invariant-loop-word : goal.invariant-loop-word

@@ -1,0 +1,6 @@
+use Rattle.std.proofs.Common.{◌∙◌}
+use Rattle.fields.proofs.Bytes.{number_at-rest}
+use Rattle.fields.proofs.u48_at.Goals as goal
+
+pub returns : goal.returns
+returns c = c.read_u48.ensures ∙ number_at-rest c.args.at 6 c.args.bytes.now

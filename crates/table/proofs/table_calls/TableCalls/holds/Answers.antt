@@ -1,0 +1,5 @@
+use Rattle.std.proofs.Common.{arith}
+use Rattle.table.proofs.table_calls.TableCalls.holds.Goals as goal
+
+pub returns : goal.returns
+returns g c = grind arith
