@@ -16,12 +16,10 @@ pub fn parse<'a>(heap: Global, text: &'a str) -> Result<Script<'a>, ScriptError<
     let mut script = None;
     for (index, line) in text.lines().enumerate() {
         let number = index + 1;
-        if let Err(fault) = read_line(heap, &mut script, number, line) {
-            return Err(ScriptError {
-                line: number,
-                fault,
-            });
-        }
+        read_line(heap, &mut script, number, line).map_err(|fault| ScriptError {
+            line: number,
+            fault,
+        })?;
     }
     script.ok_or(ScriptError {
         line: 1,
