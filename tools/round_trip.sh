@@ -1,7 +1,8 @@
 #!/usr/bin/env bash
 # Rehearses over files, which the gate's own run of the program cannot: it makes one run, and a load comes after a save.
-# What is loaded and saved again has to be the same bytes. Each script NAME.txt has to print NAME.stdout, and end well; or
-# to end with status 1, tell NAME.stderr and print NAME.stdout. Says nothing where all is well.
+# What is loaded and saved again has to be the same bytes, and what is made as the format's worked example is made has to be saved as its
+# bytes. Each script NAME.txt has to print NAME.stdout, and end well; or to end with status 1, tell NAME.stderr and print NAME.stdout.
+# Says nothing where all is well.
 # round_trip.sh [PROGRAM]: by default the program that the check of the crate built last.
 set -euo pipefail
 tools=$(cd "$(dirname "$0")" && pwd)
@@ -50,7 +51,9 @@ same() {
 }
 
 [ -x "$program" ] || fail "there is no program $program: rt run in crates/rehearse builds it"
-printf "$(sed 's/#.*//; s/[^0-9a-f]//g; s/../\\x&/g' cut.hex | tr -d '\n')" >cut.sheet
+for hex in *.hex; do
+    printf "$(sed 's/#.*//; s/[^0-9a-f]//g; s/../\\x&/g' "$hex" | tr -d '\n')" >"${hex%.hex}.sheet"
+done
 head -c -1 cut.sheet >short.sheet
 
 # an office's day, one script after the other
@@ -60,6 +63,8 @@ done
 prints commissioning
 prints next_day
 same commissioned.sheet next_day.sheet
+prints worked_example
+same worked_example.sheet created.sheet
 # a new file of that name is written over, were it longer, and where a link stands it takes the place of the link
 head -c 1000 /dev/zero >cut_again.sheet.new
 ln -s elsewhere.sheet cut_later.sheet

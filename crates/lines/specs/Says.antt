@@ -9,7 +9,7 @@ use Rattle.rules.specs.declared.ask.Question.TheVariants.{Unused, Controls, Acce
 use Rattle.rules.specs.declared.call.Call.{Call}
 use Rattle.rules.specs.declared.call.Call.TheVariants.{Assign, Deassign, SetRange, SetLocks, GenKey, Erase, Reactivate, Create, Delete, Format, Reset}
 use Rattle.rules.specs.declared.row.Flags.{Flags}
-use Rattle.words.specs.Line.{where_true}
+use Rattle.lines.specs.Line.{where_true}
 use Rattle.lines.specs.Spelling.{access_word, numbering_word, standing_words, vault_word}
 use Rattle.numerals.specs.Number.{Writes32, Writes64, WriteAll32}
 use Rattle.lines.specs.declared.calls.Order.{Order}

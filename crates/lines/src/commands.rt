@@ -6,10 +6,11 @@ ghost use Rattle.lines.specs.Says.{SaysBy, SaysCall, SaysQuestion};
 ghost use Rattle.lines.specs.Spelling.{access_word};
 
 use crate::calls::Order;
+use crate::fault::Fault;
+use crate::words::Words;
 use rules::access::Access;
 use rules::ask::{Ask, Question};
 use rules::call::Call;
-use words::{Fault, Words};
 
 // Each call is read by a function of its own, which names its fields: one for two calls would be told them by its caller.
 /// `create UNIT BLOCKS`

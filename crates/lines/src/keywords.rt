@@ -1,7 +1,7 @@
 //! The words that say which call a line is.
 ghost use Rattle.lines.specs.Spelling.{Reads, method_spelling, spelling};
 
-use words::Fault;
+use crate::fault::Fault;
 
 /// The first word of a line, or the word after a caller.
 #[derive(Clone, Copy)]

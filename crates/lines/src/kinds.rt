@@ -1,7 +1,7 @@
 //! The words that say which numbering and which vault a drive has.
 ghost use Rattle.lines.specs.Spelling.{Reads, numbering_word, vault_word};
 
-use words::Fault;
+use crate::fault::Fault;
 
 /// How the drive numbers its units.
 #[derive(Clone, Copy)]

@@ -3,10 +3,11 @@ ghost use Rattle.std.specs.Prelude.{◌∷◌, IfOk, codes};
 ghost use Rattle.lines.specs.Says.{Holds, LaysOut, NamesDrive};
 
 use crate::calls::{Layout, Source};
+use crate::fault::Fault;
 use crate::keywords::Keyword;
 use crate::kinds::{NumberingKind, VaultKind};
+use crate::words::Words;
 use std::alloc::Global;
-use words::{Fault, Words};
 
 /// The call that lays the table out, after its first word.
 pub fn layout<'a>(heap: Global, first: &'a str, words: Words<'a>) -> Result<Layout<'a>, Fault<'a>>

@@ -7,11 +7,12 @@ ghost use Rattle.lines.specs.Says.{NameFlags, NameRows, SaysBy, SaysCall, SaysQu
 ghost use Rattle.lines.specs.Spelling.{standing_words};
 
 use crate::calls::Order;
+use crate::fault::Fault;
 use crate::keywords::{Keyword, Method};
+use crate::words::{Words, number_of};
 use rules::ask::{Ask, Question};
 use rules::call::Call;
 use rules::row::{Flags, Standing};
-use words::{Fault, Words, number_of};
 
 /// A method, after its caller.
 pub fn method<'a>(caller: u32, mut words: Words<'a>) -> Result<Order<'a>, Fault<'a>>

@@ -4,10 +4,11 @@ ghost use Rattle.lines.specs.Says.{NamesCaller, Says};
 
 use crate::calls::Order;
 use crate::commands;
+use crate::fault::Fault;
 use crate::keywords::Keyword;
 use crate::methods::method;
+use crate::words::Words;
 use rules::call::ADMINS;
-use words::{Fault, Words};
 
 /// What a line wants of the table, after its first word.
 pub fn order<'a>(first: &'a str, mut words: Words<'a>) -> Result<Order<'a>, Fault<'a>>

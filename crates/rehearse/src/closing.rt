@@ -94,7 +94,10 @@ fn units(rt: &HostRuntime, units: &[LogicalUnit]) -> anyhow::Result<()> {
 /// The rows that are not free, each as a row is read.
 fn rows(rt: &HostRuntime, rows: &[Row], bounds: Bounds) -> anyhow::Result<()> {
     println!(rt; "  rows:")?;
-    for (number, row) in rows.iter().enumerate().filter(|(_, row)| !is_free(row)) {
+    for (number, row) in rows.iter().enumerate() {
+        if is_free(row) {
+            continue;
+        }
         let row = ShownRow {
             fields: row.fields(bounds),
             number,

@@ -35,7 +35,10 @@ fn told<T>(
 fn replace(rt: &HostRuntime, path: &str, bytes: &[u8]) -> io::Result<()> {
     let beside = format!(in rt.alloc(); "{path}.new")?;
     let mut file = File::create(rt, beside.as_str())?;
-    let outcome = fill(&mut file, bytes).and_then(|()| fs::rename(rt, beside.as_str(), path));
+    let mut outcome = fill(&mut file, bytes);
+    if outcome.is_ok() {
+        outcome = fs::rename(rt, beside.as_str(), path);
+    }
     if outcome.is_err() {
         // A part of a sheet is of no use. Where it cannot be removed, what is told is still why it was not written.
         let _ = fs::remove_file(rt, beside.as_str());

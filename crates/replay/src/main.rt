@@ -2,13 +2,15 @@
 //! whether it is also shown by proof from the definitions.
 #![tactic(auto)]
 
+mod run;
+mod sequence;
 mod show;
 
 ghost use Rattle.std.specs.Prelude.{◌≡◌, ◌+◌, ◌<◌, false};
 
-use cases::run::is_met_on_both;
-use cases::sequence::{Shown, Step, scsi_sequence, sequence};
 use rules::numbering::{Numbering, Nvme, Scsi};
+use run::is_met_on_both;
+use sequence::{Shown, Step, scsi_sequence, sequence};
 use show::Words;
 use shown::ShownReply;
 use table::calls::Calls;

@@ -1,3 +1,4 @@
+pub mod Callers
 pub mod LayingOut
 pub mod Steps
 pub mod Watching

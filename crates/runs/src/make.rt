@@ -1,49 +1,49 @@
 ghost use Rattle.std.specs.Prelude.{◌≡◌, false, is_ok};
 ghost use Rattle.rules.specs.Asks.{reply};
 ghost use Rattle.rules.specs.Calls.{answer, after};
+ghost use Rattle.runs.specs.Callers.{caller_of};
 
 use rules::ask::{Question, Reply, Told};
-use rules::call::{Accepted, Answer, Call};
+use rules::call::{ADMINS, Accepted, Answer, Call};
 use table::calls::Calls;
 use table::session::{ReadingSession, WritingSession as Session};
 
-/// Makes one call. A method comes in a session of its caller, which is opened for it.
+/// Makes one call. A method, or Reset, comes in a session of its caller, which is opened for it.
 pub fn make<C: Calls>(table: &mut C, call: Call) -> Answer
     ensures lent { C.lenders table.new ≡ C.lenders table.old }
     ensures kept { is_ok result ≡ false → table.new ≡ table.old }
     ensures answer { result ≡ answer (C.model table.old) call }
     ensures after { C.model table.new ≡ after (C.model table.old) call }
 {
+    let session = Session::open(caller_of(call))?;
     // A call is data, and each takes other arguments: no table of functions would be shorter.
     match call {
         Call::Assign {
-            caller,
             unit,
             start,
             length,
             standing,
+            ..
         } => {
-            let row = table.assign(&Session::open(caller)?, unit, start, length, standing)?;
+            let row = table.assign(&session, unit, start, length, standing)?;
             return Ok(Accepted::Assigned(row));
         }
-        Call::Deassign { caller, row, keep } => table.deassign(&Session::open(caller)?, row, keep),
+        Call::Deassign { row, keep, .. } => table.deassign(&session, row, keep),
         Call::SetRange {
-            caller,
             row,
             start,
             length,
-        } => table.set_range(&Session::open(caller)?, row, start, length),
-        Call::SetLocks { caller, row, flags } => {
-            table.set_locks(&Session::open(caller)?, row, flags)
-        }
-        Call::GenKey { caller, row } => table.gen_key(&Session::open(caller)?, row),
-        Call::Erase { caller, row } => table.erase(&Session::open(caller)?, row),
+            ..
+        } => table.set_range(&session, row, start, length),
+        Call::SetLocks { row, flags, .. } => table.set_locks(&session, row, flags),
+        Call::GenKey { row, .. } => table.gen_key(&session, row),
+        Call::Erase { row, .. } => table.erase(&session, row),
         Call::Reactivate {
-            caller,
             selection,
             policy,
+            ..
         } => {
-            return match table.reactivate(Session::open(caller)?, selection, policy) {
+            return match table.reactivate(session, selection, policy) {
                 Ok(rows) => Ok(Accepted::SingleUserRows(rows)),
                 Err(refused) => Err(refused.cause),
             };
@@ -51,9 +51,26 @@ pub fn make<C: Calls>(table: &mut C, call: Call) -> Answer
         Call::Create { unit, blocks } => table.create(unit, blocks),
         Call::Delete { unit } => table.delete(unit),
         Call::Format { unit } => table.format(unit),
-        Call::Reset { caller } => table.reset(&Session::open(caller)?),
+        Call::Reset { .. } => table.reset(&session),
     }?;
     Ok(Accepted::Success)
+}
+
+// Whose session a call comes in. The other commands come in none: for them one of Admins is opened, which is never refused, and not shown.
+fn caller_of(call: Call) -> u32
+    ensures { result ≡ caller_of call }
+{
+    match call {
+        Call::Assign { caller, .. }
+        | Call::Deassign { caller, .. }
+        | Call::SetRange { caller, .. }
+        | Call::SetLocks { caller, .. }
+        | Call::GenKey { caller, .. }
+        | Call::Erase { caller, .. }
+        | Call::Reactivate { caller, .. }
+        | Call::Reset { caller } => caller,
+        Call::Create { .. } | Call::Delete { .. } | Call::Format { .. } => ADMINS,
+    }
 }
 
 /// Asks one question. A row is read in a session of its caller, which is opened for it.

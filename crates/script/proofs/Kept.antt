@@ -1,7 +1,7 @@
 -- What a line that has a word adds to what is kept.
 use Rattle.std.proofs.Common.{◌≡◌, ℕ, refl, true, List, [], ◌∷◌, ◌++◌, map, length, nat_lt, Option, Some, ap, ◌∙◌, string_bytes, vec_items, rules}
 use Rattle.std.proofs.lemmas.List.{map-append}
-use Rattle.words.specs.Line.{spaced, uncommented, words_of}
+use Rattle.lines.specs.Line.{spaced, uncommented, words_of}
 use Rattle.script.specs.Kept.{kept_of, kept_so_far}
 use Rattle.script.specs.declared.script.Line.{Line}
 use Rattle.script.specs.declared.script.Script.{Script}

@@ -2,7 +2,7 @@
 use Rattle.std.specs.Prelude.{◌≡◌, ℕ, List, IfSome, vec_items, string_bytes, Option}
 use Rattle.std.specs.List.{AllByRecursion}
 use Rattle.lines.specs.Says.{LaysOut, Says}
-use Rattle.words.specs.Line.{words_of}
+use Rattle.lines.specs.Line.{words_of}
 use Rattle.script.specs.Kept.{kept_by, kept_of_text}
 use Rattle.script.specs.declared.script.Line.{Line}
 use Rattle.script.specs.declared.script.Script.{Script}

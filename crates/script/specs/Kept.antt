@@ -2,7 +2,7 @@
 use Rattle.std.specs.Prelude.{ℕ, ◌+◌, cond, List, [], ◌∷◌, map, length, nat_lt, vec_items, string_bytes, Option, Some, None}
 use Rattle.std.specs.List.{enumerate_from, flat_map}
 use Rattle.std.specs.Str.Lines.{lines}
-use Rattle.words.specs.Line.{spaced, uncommented, words_of}
+use Rattle.lines.specs.Line.{spaced, uncommented, words_of}
 use Rattle.script.specs.declared.script.Line.{Line}
 use Rattle.script.specs.declared.script.Script.{Script}
 

@@ -1,7 +1,7 @@
 //! What is wrong with a script.
+use lines::Fault;
 use std::fmt;
 use thiserror::Error;
-use words::Fault;
 
 /// The first line of a script that cannot be read, counted from 1.
 #[derive(Clone, Copy, Error)]

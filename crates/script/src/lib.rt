@@ -8,5 +8,4 @@ mod script;
 pub use crate::error::ScriptError;
 pub use crate::parser::parse;
 pub use crate::script::{Line, Script};
-pub use lines::{Layout, NumberingKind, Order, Source, VaultKind};
-pub use words::Fault;
+pub use lines::{Fault, Layout, NumberingKind, Order, Source, VaultKind};

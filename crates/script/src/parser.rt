@@ -5,9 +5,8 @@ ghost use Rattle.script.specs.Kept.{kept_of, kept_so_far};
 
 use crate::error::ScriptError;
 use crate::script::{Line, Script};
-use lines::{layout, order};
+use lines::{Fault, Words, layout, order};
 use std::alloc::Global;
-use words::{Fault, Words};
 
 /// Reads a whole script. The first line that cannot be read decides the error.
 pub fn parse<'a>(heap: Global, text: &'a str) -> Result<Script<'a>, ScriptError<'a>>

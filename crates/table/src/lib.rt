@@ -3,7 +3,6 @@
 
 pub mod calls;
 pub mod loading;
-mod method_refusals;
 pub mod refusals;
 mod renewals;
 pub mod restoring;

@@ -9,6 +9,7 @@ ghost use Rattle.sheet.specs.Promises.{LoadsWhatWasSaved, SavesWhatWasLoaded, Ta
 
 use crate::calls::Calls;
 use crate::state::{Table, check_capacity};
+use content::Content;
 use layout::content::Layout;
 use rules::cause::Cause;
 use rules::numbering::{Bounds, Numbering};
@@ -46,12 +47,12 @@ impl<'v, V: Vault, N: Numbering> Table<'v, V, N> {
             Ok(layout) => (layout, false),
             Err(_) => (Layout::blank(), true),
         };
-        Table {
+        let content = Content {
             layout,
-            vault,
-            numbering: PhantomData,
             closed,
-        }
+            numbering: PhantomData,
+        };
+        Table { content, vault }
     }
 }
 

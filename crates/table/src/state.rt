@@ -5,6 +5,7 @@ ghost use Rattle.rules.specs.declared.cause.Cause.TheVariants.{Closed};
 ghost use Rattle.rules.specs.LayingOut.{fresh_check, fresh};
 
 use crate::calls::Calls;
+use content::Content;
 use layout::content::Layout;
 use rules::cause::Cause;
 use rules::numbering::Numbering;
@@ -14,11 +15,8 @@ use vault::Vault;
 /// A drive's table over the vault that it is lent.
 #[derive(Drop)]
 pub struct Table<'v, V: Vault, N: Numbering> {
-    pub(crate) layout: Layout,
+    pub(crate) content: Content<N>,
     pub(crate) vault: &'v mut V,
-    pub(crate) numbering: PhantomData<N>,
-    // A closed table is no other type: it answers every call too, and its rows and units are looked at.
-    pub(crate) closed: bool,
 }
 
 /// Says whether a table can be laid out blank over this vault.
@@ -51,11 +49,11 @@ impl<'v, V: Vault, N: Numbering> Table<'v, V, N> {
         ensures lent { result.vault.ghost_name ≡ vault.entry.ghost_name }
     {
         let closed = fresh_check(vault).is_err();
-        Table {
+        let content = Content {
             layout: Layout::blank(),
-            vault,
-            numbering: PhantomData,
             closed,
-        }
+            numbering: PhantomData,
+        };
+        Table { content, vault }
     }
 }

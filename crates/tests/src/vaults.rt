@@ -30,6 +30,13 @@ fn ask<V: Vault>(vault: &mut V, request: Request) -> Result<(), u32> {
     })
 }
 
+// Makes the requests in turn, each of which has to be answered so.
+fn answers<V: Vault>(rt: &impl Abort, vault: &mut V, requests: &[(Request, Result<(), u32>)]) {
+    for (request, expected) in requests {
+        assert!(rt; ask(vault, *request) == *expected);
+    }
+}
+
 // Capacity 2, empty at first. Where several refusals apply, the first in order is answered.
 const ORDER: [(Request, Result<(), u32>); 18] = [
     (Request::Swap(5, 0), Err(44)),
@@ -52,52 +59,45 @@ const ORDER: [(Request, Result<(), u32>); 18] = [
     (Request::Put(5), Ok(())),
 ];
 
-fn asked_in_order<V: Vault>(rt: &impl Abort, vault: &mut V) {
-    for (request, expected) in ORDER {
-        assert!(rt; ask(vault, request) == expected);
+fn answers_in_order<V: Vault>(rt: &impl Abort, vault: &mut V) {
+    answers(rt, vault, &ORDER);
+    assert!(rt; vault.capacity() == 2 && vault.count() == 2);
+    for serial in [0, 5, 7, 9, LARGEST] {
+        assert!(rt; vault.holds(serial) == [5, 9].contains(&serial));
     }
-    assert_eq!(rt; (vault.capacity(), vault.count()), (2, 2));
-    assert!(rt; vault.holds(5) && vault.holds(9));
-    assert!(rt; !vault.holds(0) && !vault.holds(7) && !vault.holds(LARGEST));
 }
 
 #[test]
 fn refusals_come_in_order(rt: HostRuntime) {
-    asked_in_order(&rt, &mut KeyFile::new(2));
+    answers_in_order(&rt, &mut KeyFile::new(2));
     let mut registers = [0, 0];
-    asked_in_order(&rt, &mut KeyChip::new(&mut registers));
-    assert_eq!(rt; registers, [9, 5]);
+    answers_in_order(&rt, &mut KeyChip::new(&mut registers));
+    assert!(rt; registers == [9, 5]);
 }
 
 #[test]
 fn put_fills_the_lowest_zero_register(rt: HostRuntime) {
     let mut registers = [3, 0, 0, 8];
-    let outcomes = {
-        let mut chip = KeyChip::new(&mut registers);
-        [
-            ask(&mut chip, Request::Put(7)),
-            ask(&mut chip, Request::Drop(3)),
-            ask(&mut chip, Request::Put(4)),
-            ask(&mut chip, Request::Swap(8, 6)),
-        ]
-    };
-    assert_eq!(rt; outcomes, [Ok(()); 4]);
-    assert_eq!(rt; registers, [4, 7, 0, 6]);
+    let requests = [
+        (Request::Put(7), Ok(())),
+        (Request::Drop(3), Ok(())),
+        (Request::Put(4), Ok(())),
+        (Request::Swap(8, 6), Ok(())),
+    ];
+    answers(&rt, &mut KeyChip::new(&mut registers), &requests);
+    assert!(rt; registers == [4, 7, 0, 6]);
 }
 
 // A vault with no place: it holds nothing, and refuses as any full vault does.
 fn unfit<V: Vault>(rt: &impl Abort, vault: &mut V) {
-    assert_eq!(rt;
-        (vault.capacity(), vault.count(), vault.holds(3)),
-        (0, 0, false)
-    );
-    let outcomes = [
-        ask(vault, Request::Put(0)),
-        ask(vault, Request::Put(3)),
-        ask(vault, Request::Swap(3, 4)),
-        ask(vault, Request::Drop(3)),
+    assert!(rt; vault.capacity() == 0 && vault.count() == 0 && !vault.holds(3));
+    let requests = [
+        (Request::Put(0), Err(41)),
+        (Request::Put(3), Err(43)),
+        (Request::Swap(3, 4), Err(44)),
+        (Request::Drop(3), Err(44)),
     ];
-    assert_eq!(rt; outcomes, [Err(41), Err(43), Err(44), Err(44)]);
+    answers(rt, vault, &requests);
 }
 
 #[test]
@@ -109,12 +109,9 @@ fn unfit_capacities(rt: HostRuntime) {
         (65, Err(29)),
         (u32::MAX, Err(29)),
     ] {
-        assert!(rt;
-            numbered(KeyFile::check(capacity)) == expected,
-            "{capacity}"
-        );
+        assert!(rt; numbered(KeyFile::check(capacity)) == expected);
     }
-    assert_eq!(rt; KeyFile::new(64).capacity(), 64);
+    assert!(rt; KeyFile::new(64).capacity() == 64);
     unfit(&rt, &mut KeyFile::new(0));
     unfit(&rt, &mut KeyFile::new(65));
 }
@@ -126,18 +123,15 @@ fn check(registers: &[u32]) -> Result<(), u32> {
 #[test]
 fn a_register_that_stands_twice_is_unfit(rt: HostRuntime) {
     let mut twice = [3, 0, 3];
-    assert_eq!(rt; check(&twice), Err(29));
+    assert!(rt; check(&twice) == Err(29));
     unfit(&rt, &mut KeyChip::new(&mut twice));
-    assert_eq!(rt; twice, [3, 0, 3]);
+    assert!(rt; twice == [3, 0, 3]);
 }
 
 #[test]
 fn too_many_registers_are_unfit(rt: HostRuntime) {
     let mut many = [0; 65];
-    assert_eq!(rt;
-        [check(&many), check(&many[0..64]), check(&many[0..0])],
-        [Err(29), Ok(()), Err(29)]
-    );
+    assert!(rt; check(&[]) == Err(29) && check(&[0; 64]) == Ok(()) && check(&many) == Err(29));
     unfit(&rt, &mut KeyChip::new(&mut many));
-    assert_eq!(rt; many, [0; 65]);
+    assert!(rt; many == [0; 65]);
 }

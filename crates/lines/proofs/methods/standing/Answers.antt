@@ -2,7 +2,7 @@
 use Rattle.std.proofs.Common.{◌≢◌, ℕ, Bool, true, false, List, codes, rules}
 use Rattle.rules.specs.declared.row.Standing.{Standing}
 use Rattle.rules.specs.declared.row.Standing.TheVariants.{Shared, SingleUser}
-use Rattle.words.specs.Line.{where_true}
+use Rattle.lines.specs.Line.{where_true}
 use Rattle.lines.specs.Spelling.{standing_words}
 use Rattle.lines.proofs.methods.standing.Goals as goal
 

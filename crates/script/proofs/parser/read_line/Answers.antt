@@ -1,8 +1,8 @@
 -- The words that are kept are put together from the words that were read, so they say the same.
 use Rattle.std.proofs.Common.{◌≡◌, ◌∙◌, sym, refl, ◌++◌, length, nat_lt, true, string_bytes, rules}
 use Rattle.std.proofs.ByRecursion.{All-push}
-use Rattle.words.specs.Line.{spaced, uncommented, words_of}
-use Rattle.words.proofs.Rejoined.{same_words}
+use Rattle.lines.specs.Line.{spaced, uncommented, words_of}
+use Rattle.lines.proofs.Rejoined.{same_words}
 use Rattle.script.specs.Faithful.{SoFar}
 use Rattle.script.specs.Kept.{kept_of, kept_so_far}
 use Rattle.script.proofs.Kept.{has_word, one_kept, one_more}
