@@ -94,11 +94,20 @@ impl<'a> Words<'a> {
     }
 
     /// The words that are left, with one space between.
-    pub fn joined(self, heap: Global) -> Result<String, AllocError>
+    // No list of them is kept beside the text: of short words it would be several times the line. Most texts fit the room that this one
+    // begins with, so it seldom grows.
+    pub fn joined(mut self, heap: Global) -> Result<String, AllocError>
         ensures { IfOk result (λ s. string_bytes s ≡ spaced self.entry) }
     {
-        let words: Vec<&str> = self.collect(heap)?;
-        words.join(heap, " ")
+        let mut all = String::with_capacity(heap, 24)?;
+        if let Some(first) = self.next() {
+            all.push_str(first)?;
+        }
+        for word in self {
+            all.push(' ')?;
+            all.push_str(word)?;
+        }
+        Ok(all)
     }
 
     /// The words that are left, each of which has to be a number.

@@ -7,24 +7,26 @@ use std::alloc::{AllocError, Global};
 use std::fmt;
 use table::calls::Calls;
 
-/// The keys of the table: the units' in rising order, then the range rows'.
-pub fn keys<C: Calls>(heap: Global, table: &C) -> Result<Vec<u32>, AllocError> {
-    let mut all = Vec::new(heap);
+/// Lists the keys of the table in place of what was listed: the units' in rising order, then the range rows'.
+pub fn list_keys<C: Calls>(table: &C, keys: &mut Vec<u32>) -> Result<(), AllocError> {
+    keys.clear();
     for unit in table.units() {
-        all.push(unit.serial)?;
+        keys.push(unit.serial)?;
     }
     for row in table.rows() {
         if let Kind::RangeRow { serial, .. } = row.kind {
-            all.push(serial)?;
+            keys.push(serial)?;
         }
     }
-    Ok(all)
+    Ok(())
 }
 
 /// The keys that the vault holds, in rising order: of the table's, and of those that it was given, as a closed table has none.
 fn held<C: Calls>(heap: Global, table: &C, given: &[u32]) -> Result<Vec<u32>, AllocError> {
+    let mut keys = Vec::new(heap);
+    list_keys(table, &mut keys)?;
     let mut held = Vec::new(heap);
-    for serial in keys(heap, table)?.iter().chain(given) {
+    for serial in keys.iter().chain(given) {
         if table.holds(*serial) && !held.contains(serial) {
             held.push(*serial)?;
         }

@@ -81,9 +81,9 @@ impl<'a> KeySet for KeyChip<'a> {
         self.used as u32
     }
 
-    // As many at most.
+    // A sum of ones goes over several words at a time, which a filter would not.
     fn count(&self) -> u32 {
-        self.words().iter().filter(|word| **word != 0).count() as u32
+        self.words().iter().map(|word| u32::from(*word != 0)).sum()
     }
 
     fn holds(&self, serial: u32) -> bool {
