@@ -1,5 +1,5 @@
 #!/usr/bin/env bash
-# Has the lines in transcripts/lines read: which can be read and as what, and what is said of those that cannot. In a list `\r`,
+# Has the lines in transcripts/lines read, and a last line without a line feed: which can be read and as what, and what is said of those that cannot. In a list `\r`,
 # `\n` and `\t` stand for the characters. Says nothing where all is well.
 # lines.sh [PROGRAM]: by default the program that the check of the crate built last.
 set -euo pipefail
@@ -68,4 +68,12 @@ unreadable unreadable_scripts.txt '' ''
 for list in "$lists"/read_*.txt; do
     readable "${list##*/}"
 done
+# A last line needs no line feed.
+printf 'fresh nvme chip 1\nunused' >script
+status=0
+"$program" script >said 2>told || status=$?
+if [ $status != 0 ] || ! grep -Fxq 'unused => 1' said; then
+    wrong=1
+    echo "lines: a last line without a line feed ended with status $status and: $(cat said told)" >&2
+fi
 exit $wrong

@@ -5,8 +5,11 @@ ghost use Rattle.std.specs.Prelude.{◌≡◌, ℕ, ◌^◌, ◌≤◌, List, Re
 ghost use Rattle.numerals.specs.Number.{numeral, read_in, read, fitted};
 ghost use Rattle.numerals.specs.declared.NumberFault.{NumberFault};
 
+#[cfg(test)]
+mod tests;
+
 /// Why a word is not a number that can be used.
-#[derive(Clone, Copy)]
+#[derive(Clone, Copy, Debug, PartialEq, Eq)]
 pub enum NumberFault {
     NotANumber,
     TooLarge,

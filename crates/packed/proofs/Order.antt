@@ -1,7 +1,7 @@
 -- Laws of lists that rise by number.
-use Rattle.std.proofs.Common.{◌≡◌, ℕ, suc, ◌≤◌, true, false, ◌||◌, eqb, List, [], ◌∷◌, length, get_or, set, is_some, Some, None, refl, ap, ◌∙◌, arith}
+use Rattle.std.proofs.Common.{◌≡◌, ℕ, suc, ◌≤◌, true, false, ◌||◌, eqb, leb, List, [], ◌∷◌, length, get_or, set, is_some, Some, None, refl, ap, ◌∙◌, arith}
 use Rattle.std.proofs.lemmas.Bool.Decides.{nat_tests}
-use Rattle.std.specs.List.{list_any, remove as removed}
+use Rattle.std.specs.List.{list_any, insert as inserted, remove as removed}
 use Rattle.packed.specs.First.{first}
 use Rattle.packed.specs.Rising.{rises, has, lookup, insert, remove, change}
 use Rattle.packed.proofs.Search.{when-found, when-absent}
@@ -104,3 +104,22 @@ module _ {A : Type 0} (key : A → ℕ) where
     pub has-absent : (xs : List A) → first (λ x. eqb (key x) k) xs ≡ None → has key k xs ≡ false
     unfolding has
     has-absent = when-absent (λ x. eqb (key x) k) (λ xs. has key k xs ≡ false) refl (λ x xs t h. rw (t, h))
+
+    -- what is not there is neither given nor taken out
+    pub lookup_absent : (xs : List A) → first (λ x. eqb (key x) k) xs ≡ None → lookup key k xs ≡ None
+    unfolding lookup
+    lookup_absent = when-absent (λ x. eqb (key x) k) (λ xs. lookup key k xs ≡ None) refl (λ x xs t h. rw (t, h))
+
+    pub remove_absent : (xs : List A) → first (λ x. eqb (key x) k) xs ≡ None → remove key k xs ≡ xs
+    unfolding remove
+    remove_absent = when-absent (λ x. eqb (key x) k) (λ xs. remove key k xs ≡ xs) refl (λ x xs t h. rw (t, h))
+
+  -- in any list, rising or not, a new element goes before the first whose number is no smaller, or to the end
+  module _ (x : A) where
+    pub insert-found : (ys : List A) (i : ℕ) → first (λ y. leb (key x) (key y)) ys ≡ Some i → insert key x ys ≡ inserted ys i x
+    unfolding insert
+    insert-found = when-found (λ y. leb (key x) (key y)) (λ ys i. insert key x ys ≡ inserted ys i x) (λ y ys t. grind (arith, nat_tests)) (λ y ys j t h. grind (arith, nat_tests))
+
+    pub insert-absent : (ys : List A) → first (λ y. leb (key x) (key y)) ys ≡ None → insert key x ys ≡ inserted ys (length ys) x
+    unfolding insert
+    insert-absent = when-absent (λ y. leb (key x) (key y)) (λ ys. insert key x ys ≡ inserted ys (length ys) x) refl (λ y ys t h. grind (arith, nat_tests))

@@ -32,6 +32,7 @@ pub trait Numbering {
 }
 
 /// NVMe namespaces count from 1; 0 marks a row without one.
+#[derive(Clone, Copy)]
 pub struct Nvme;
 
 impl Numbering for Nvme {
@@ -48,6 +49,7 @@ impl Numbering for Nvme {
 }
 
 /// SCSI logical units count from 0; 0xFFFF_FFFF marks a row without one.
+#[derive(Clone, Copy)]
 pub struct Scsi;
 
 impl Numbering for Scsi {

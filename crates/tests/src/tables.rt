@@ -19,6 +19,10 @@ fn a_used_vault_closes_a_blank_table(rt: HostRuntime) {
     assert!(rt; fresh_check(&used) == Err(Cause::Closed));
     let mut table = Table::<_, Nvme>::fresh(&mut used);
     assert!(rt; table.create(1, 1) == Err(Cause::Closed));
+    assert!(rt; table.create(0, 0) == Err(Cause::Closed));
+    assert!(rt; table.delete(1) == Err(Cause::Closed));
+    assert!(rt; table.unused() == Err(Cause::Closed));
+    assert!(rt; table.controls(1, 0) == Err(Cause::Closed));
     // its vault keeps what it holds
     assert!(rt; table.holds(9));
 }

@@ -1,5 +1,5 @@
--- When a request is accepted, and that it then leaves a sound meaning.
-use Rattle.std.proofs.Common.{◌≡◌, ℕ, ◌<◌, ◌≤◌, true, false, not, eqb, leb, List, if◌then◌else◌, [], ◌∷◌, length, None, arith}
+-- When a request is accepted, and that it then leaves a sound meaning; when Put finds no room.
+use Rattle.std.proofs.Common.{◌≡◌, ℕ, ◌<◌, ◌≤◌, true, false, not, eqb, leb, List, if◌then◌else◌, [], ◌∷◌, length, Some, None, arith}
 use Rattle.std.proofs.lemmas.Bool.{and_parts, and_from, leb-true, le-leb, lt-leb, ne_eqb, not-false}
 use Rattle.std.proofs.lemmas.Bool.Decides.{nat_tests}
 use Rattle.packed.proofs.Order.{rises-insert, rises-remove, length-insert, length-remove, has-remove}
@@ -12,6 +12,9 @@ use Rattle.vault.proofs.Checks.{all-passed}
 module _ (m : Meaning) where
   pub put-accepted : (s : ℕ) → (s ≡ 0 → ⊥) → holds s m.held ≡ false → length m.held < m.capacity → put_refusal m s ≡ None
   put-accepted s z h l = rw (ne_eqb s 0 z, h, lt-leb m.capacity (length m.held) l)
+
+  pub put_full : (s : ℕ) → (s ≡ 0 → ⊥) → holds s m.held ≡ false → m.capacity ≤ length m.held → put_refusal m s ≡ Some Full
+  put_full s z h l = rw (ne_eqb s 0 z, h, le-leb m.capacity (length m.held) l)
 
   pub swap-accepted : (old new : ℕ) → holds old m.held ≡ true → (new ≡ 0 → ⊥) → holds new m.held ≡ false → swap_refusal m old new ≡ None
   swap-accepted old new h z k = rw (h, ne_eqb new 0 z, k)

@@ -1,7 +1,7 @@
 -- The set of the words that are not 0.
-use Rattle.std.proofs.Common.{◌≡◌, ℕ, zero, suc, ◌<◌, ◌≤◌, true, not, cond, ◌&&◌, eqb, ltb, List, [], ◌∷◌, length, get_or, set, sym, refl, ap, ◌∙◌, arith}
+use Rattle.std.proofs.Common.{◌≡◌, ℕ, zero, suc, ◌+◌, ◌<◌, ◌≤◌, true, not, cond, ◌&&◌, ◌||◌, eqb, ltb, List, [], ◌∷◌, length, get_or, drop, set, sym, refl, ap, ◌∙◌, arith}
 use Rattle.std.proofs.lemmas.Bool.Decides.{nat_tests}
-use Rattle.std.proofs.lemmas.List.{set-set, set-get_or, get_or-set_same, length-set}
+use Rattle.std.proofs.lemmas.List.{set-set, set-get_or, get_or-set_same, length-set, drop_more}
 use Rattle.std.proofs.lemmas.List.Sums.{sum_by-cons}
 use Rattle.std.specs.List.{count_by}
 use Rattle.packed.specs.Rising.{has, insert, rises}
@@ -62,3 +62,8 @@ pub count-words : (xs : List ℕ) → count_by (λ x. not (eqb x 0)) xs ≡ leng
 unfolding collect
 count-words [] = refl
 count-words (x ∷ xs) = let h = count-words xs in let c = sum_by-cons (λ x. cond (not (eqb x 0)) 1 0) x xs in let k = length-insert (λ y. y) x (collect xs) in grind (arith, nat_tests)
+
+-- whether the words from one place on are distinct, by that word and those after it
+pub distinct_more : (xs : List ℕ) (i : ℕ) → i < length xs → distinct (drop i xs) ≡ ((eqb (get_or xs i 0) 0 || not (holds (get_or xs i 0) (drop (i + 1) xs))) && distinct (drop (i + 1) xs))
+unfolding distinct
+distinct_more xs i l = rw (drop_more xs i 0 l)

@@ -7,5 +7,6 @@ use Rattle.layout.proofs.rows.Rows.find.Goals as goal
 
 pub returns-clause-lowest : goal.returns-clause-lowest
 returns-clause-lowest c =
-    position_from_yields_List (suits c.args.sought) _ _ _ c.position.ensures.ran (YieldsList-from_slice c.args.self.now (c.iter.ensures.rest ∙ c.self.view_is)) (λ x b q k. search rules)
-    ∙ position-is-first (suits c.args.sought) c.args.self.now
+    let at = position_from_yields_List (suits c.args.sought) _ _ _ c.position.ensures.ran (YieldsList-from_slice c.args.self.now (c.iter.ensures.rest ∙ c.self.view_is)) (λ x b q k. search rules)
+    ∙ position-is-first (suits c.args.sought) c.args.self.now in
+    search rules

@@ -1,4 +1,5 @@
+use Rattle.std.proofs.Common.{rules}
 use Rattle.vault.proofs.file.KeyFileKeySet.holds.Goals as goal
 
 pub returns : goal.returns
-returns c = c.contains.ensures
+returns c = let there = c.contains.ensures in search rules
